@@ -1,0 +1,21 @@
+//! Queries to a reader of HTTP heads, their answers, and the text forms of both.
+//!
+//! Nothing here knows which reader is asked. Every error is a sentence for people: what is wrong,
+//! where, and what is expected.
+
+mod answer;
+mod answer_text;
+mod call;
+pub mod differences;
+mod example;
+mod number;
+mod query;
+pub mod quoted;
+pub mod recorded;
+mod settings;
+
+pub use answer::{Answer, ChunkSize, Fault, Header, Outcome, Piece, Reason, Slots};
+pub use call::Call;
+pub use example::Example;
+pub use query::Query;
+pub use settings::Settings;
