@@ -80,6 +80,12 @@ module _ {U A B F : Type 0} where
   and (short u) k = short u
   and (bad e) k = bad e
 
+  -- it matters only what follows where it follows
+  pub and-same : (r : Answer U A F) {k k′ : A → ℕ → Answer U B F} → ((a : A) (q : ℕ) → k a q ≡ k′ a q) → and r k ≡ and r k′
+  and-same (got a q) h = h a q
+  and-same (short u) h = refl
+  and-same (bad e) h = refl
+
 module _ {S A T U : Type 0} (known : S → U) (known′ : A → T → U) where
   -- what is known in a state of one machine after another
   abbrev pub either : Then S A T → U

@@ -6,3 +6,5 @@ pub mod Judged
 pub mod Seq
 pub mod Loop
 pub mod Answer
+pub mod Chain
+pub mod Branch

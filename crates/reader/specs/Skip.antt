@@ -40,6 +40,14 @@ module _ {class : ℕ → Bool} {xs : List ℕ} {i : ℕ} where
   pub skipped-end : {r : ℕ} → Passed class xs i r → length xs ≤ r → Skipped class xs i r
   skipped-end {r} h l = record { passed = h; stop = λ p. absurd (omega arith) }
 
+-- a part of a row
+pub passed-part : {class : ℕ → Bool} {xs : List ℕ} {i r : ℕ} (j k : ℕ) → Passed class xs i r → i ≤ j → j ≤ k → k ≤ r → Passed class xs j k
+passed-part {xs = xs} {i = i} {r = r} j k h a b c = record {
+  from = b;
+  inside = λ l. let u : r ≤ length xs = h .inside (omega arith) in omega arith;
+  all = λ n lo hi. h .all n (omega arith) (omega arith);
+}
+
 -- what a test `if !is_class(b)` says of the class
 pub told-true : {t c : Bool} → t ≡ c → not t ≡ false → c ≡ true
 told-true {t} e h = sym e ∙ not-false t h

@@ -1,6 +1,6 @@
 //! The classes of bytes and their skips compared with the same in plain Rust, written from document 01, section 2.
 
-use parts::{is, skip, Class, Random, CLASSES, SKIPPED};
+use harness::{is, skip, Class, Random, CLASSES, SKIPPED};
 
 fn expected(class: Class, byte: u8) -> bool {
     match class {

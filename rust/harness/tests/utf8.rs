@@ -1,6 +1,6 @@
 //! The UTF-8 check compared with the one of Rust's own library: both take the same strings.
 
-use parts::{is_utf8, Random};
+use harness::{is_utf8, Random};
 
 /// The ends of every range of RFC 3629's table, and the bytes next to them.
 const BOUNDARY: [u8; 24] = [

@@ -1,0 +1,48 @@
+-- The end of a line: CR LF, or LF alone where the rules allow it (RFC 9112, 2.2).
+-- Assumes nothing.
+use Prim.Native.Nat.{ℕ, _+_, _≤_, _<_}
+use mathlib.Core.Path.{_≡_, refl}
+use mathlib.Core.List.{List}
+use mathlib.Core.Bool.{_&&_, cond}
+use lib.Dec.{eqb}
+use lib.ListN.{length, getD}
+use borrow.Author.Tests.{eq-eqb, ne-eqb}
+use Rattle.reader.specs.Machine.{keep, give, refuse, Step}
+use Rattle.reader.specs.Laws.{run-in, run-out}
+use Rattle.reader.specs.Answer.{Answer, got, short, bad}
+use Rattle.reader.specs.Chain.{reads}
+use Rattle.parts.specs.Rules.{Rules, default}
+
+-- at the end, or behind its CR
+pub data LineEnd : Type 0 where
+  begin cr : LineEnd
+
+abbrev pub lineEndStep : {E : Type 0} → Rules → E → Step LineEnd (Unit {0}) E
+lineEndStep r e begin p b = cond (eqb b 13) (keep cr) (cond (r .lf-alone && eqb b 10) (give tt) (refuse e))
+lineEndStep r e cr p b = cond (eqb b 10) (give tt) (refuse e)
+
+abbrev pub lineEnd : {E : Type 0} → Rules → E → List ℕ → ℕ → Answer (Unit {0}) (Unit {0}) E
+lineEnd r e xs at = reads (lineEndStep r e) begin xs at
+
+module _ {E : Type 0} (e : E) (xs : List ℕ) (at : ℕ) where
+  pub line-end-none : length xs ≤ at → short tt ≡ lineEnd default e xs at
+  line-end-none h = rw (run-out (lineEndStep default e) begin xs at h)
+
+  module _ (h : at < length xs) where
+    pub line-end-lf : getD xs at 0 ≡ 10 → got tt (at + 1) ≡ lineEnd default e xs at
+    line-end-lf b = rw (run-in (lineEndStep default e) begin xs at h, b)
+
+    pub line-end-not : (getD xs at 0 ≡ 10 → ⊥) → (getD xs at 0 ≡ 13 → ⊥) → bad e ≡ lineEnd default e xs at
+    line-end-not b c = rw (run-in (lineEndStep default e) begin xs at h, ne-eqb _ _ c, ne-eqb _ _ b)
+
+    module _ (c : getD xs at 0 ≡ 13) where
+      pub line-end-cut : length xs ≤ at + 1 → short tt ≡ lineEnd default e xs at
+      line-end-cut l = rw (run-in (lineEndStep default e) begin xs at h, c, run-out (lineEndStep default e) cr xs (at + 1) l)
+
+      pub line-end-crlf : at + 1 < length xs → getD xs (at + 1) 0 ≡ 10 → got tt (at + 1 + 1) ≡ lineEnd default e xs at
+      line-end-crlf l b = rw (run-in (lineEndStep default e) begin xs at h, c, run-in (lineEndStep default e) cr xs (at + 1) l, b)
+
+      pub line-end-bare : at + 1 < length xs → (getD xs (at + 1) 0 ≡ 10 → ⊥) → bad e ≡ lineEnd default e xs at
+      line-end-bare l b = rw (run-in (lineEndStep default e) begin xs at h, c, run-in (lineEndStep default e) cr xs (at + 1) l, ne-eqb _ _ b)
+
+pub ruleset line-ends = (line-end-none, line-end-lf, line-end-not, line-end-cut, line-end-crlf, line-end-bare)

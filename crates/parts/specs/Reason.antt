@@ -1,0 +1,92 @@
+-- A reason phrase: any number of text bytes (RFC 9112, 4), given as empty where one of them is from 0x80 on.
+-- Assumes nothing.
+use Prim.Native.Nat.{ℕ, zero, suc, _+_, _-_, _≤_, _<_}
+use native.Mathlib.Decide.{decLt}
+use native.Mathlib.Omega.{arith}
+use mathlib.Core.Path.{_≡_, refl, _∙_}
+use mathlib.Core.List.{List}
+use mathlib.Core.Bool.{Bool, true, false, not, _&&_, _||_, cond, false≢true}
+use lib.ListN.{length, getD}
+use Rattle.reader.specs.Machine.{keep, before, Step, runAt}
+use Rattle.reader.specs.Skip.{Passed, Skipped, passed-part, skip}
+use Rattle.reader.specs.Laws.{run-in, run-out}
+use Rattle.reader.specs.Answer.{Answer, got, short, bad}
+use Rattle.reader.specs.Chain.{reads}
+use Rattle.octets.specs.Class.{isValue, isAscii}
+use Rattle.parts.specs.declared.Error.{Error}
+use Rattle.parts.specs.declared.Piece.{Piece}
+use Rattle.parts.specs.Answers.{piece}
+
+-- no piece at all, at a position
+abbrev pub empty : ℕ → Piece
+empty a = record { offset = a; length = 0 }
+
+-- no byte yet; or bytes from a position on, and whether one of them was from 0x80 on
+pub data Reason : Type 0 where
+  none : Reason
+  inside : ℕ → Bool → Reason
+
+abbrev pub reasonStep : Step Reason Piece Error
+reasonStep none p b = cond (isValue b) (keep (inside p (not (isAscii b)))) (before (piece p p))
+reasonStep (inside a obs) p b = cond (isValue b) (keep (inside a (obs || not (isAscii b)))) (before (cond obs (empty a) (piece a p)))
+
+abbrev pub reason : List ℕ → ℕ → Answer (Unit {0}) Piece Error
+reason xs at = reads reasonStep none xs at
+
+-- a plain byte of a reason
+both : ℕ → Bool
+both b = isValue b && isAscii b
+
+both-split : (s t : Bool) → (s && t) ≡ true → (s ≡ true) × (t ≡ true)
+both-split true t e = (refl, e)
+both-split false t e = absurd (false≢true e)
+
+module _ (xs : List ℕ) (a : ℕ) where
+  plain-passed : {i j : ℕ} → i ≤ length xs → Passed isValue xs i j → Passed isAscii xs i j → runAt reasonStep (inside a false) xs i ≡ runAt reasonStep (inside a false) xs j
+  unfolding both
+  plain-passed l v c = skip reasonStep both (inside a false) (λ q b e. let w = both-split (isValue b) (isAscii b) e in rw (w .0, w .1)) xs l (record { from = v .from; inside = v .inside; all = λ k lo hi. rw (v .all k lo hi, c .all k lo hi) })
+
+  obs-passed : {i j : ℕ} → i ≤ length xs → Passed isValue xs i j → runAt reasonStep (inside a true) xs i ≡ runAt reasonStep (inside a true) xs j
+  obs-passed l v = skip reasonStep isValue (inside a true) (λ q b e. rw e) xs l v
+
+  -- to the end of the input, whatever the bytes
+  inside-out : (d i : ℕ) (obs : Bool) → i + d ≡ length xs → ((k : ℕ) → i ≤ k → k < length xs → isValue (getD xs k 0) ≡ true) → short tt ≡ reads reasonStep (inside a obs) xs i
+  inside-out zero i obs e v = rw (run-out reasonStep (inside a obs) xs i (omega arith))
+  inside-out (suc d) i obs e v = rw (run-in reasonStep (inside a obs) xs i (omega arith), v i (omega arith) (omega arith)) (inside-out d (i + 1) _ (omega arith) (λ k lo hi. v k (omega arith) hi))
+
+module _ (xs : List ℕ) (at : ℕ) {r : ℕ} (v : Skipped isValue xs at r) where
+  pub reason-more : length xs ≤ r → short tt ≡ reason xs at
+  reason-more l = go (decLt at (length xs))
+    where
+      go : Dec (at < length xs) → short tt ≡ reason xs at
+      go (yes h) =
+          let d : at + 1 + (length xs - (at + 1)) ≡ length xs = omega arith in
+          rw (run-in reasonStep none xs at h, v .passed .all at (omega arith) (omega arith))
+          (inside-out xs at (length xs - (at + 1)) (at + 1) _ d (λ k lo hi. v .passed .all k (omega arith) (omega arith)))
+      go (no h) = rw (run-out reasonStep none xs at (omega arith))
+
+  module _ {q : ℕ} (c : Skipped isAscii xs at q) (l : r < length xs) where
+    pub reason-plain : r ≤ q → got (piece at r) r ≡ reason xs at
+    reason-plain e = go (decLt at r)
+      where
+        go : Dec (at < r) → got (piece at r) r ≡ reason xs at
+        go (yes h) =
+            rw (run-in reasonStep none xs at (omega arith), v .passed .all at (omega arith) h, c .passed .all at (omega arith) (omega arith), plain-passed xs at {i = at + 1} {j = r} (omega arith) (passed-part (at + 1) r (v .passed) (omega arith) (omega arith) (omega arith)) (passed-part (at + 1) r (c .passed) (omega arith) (omega arith) e), run-in reasonStep (inside at false) xs r l, v .stop l)
+        go (no h) = let u : r ≡ at = omega (arith, v .passed .from) in rw (u, run-in reasonStep none xs at (omega arith), rw u at (v .stop l))
+
+    pub reason-obs : q < r → got (empty at) r ≡ reason xs at
+    reason-obs e = go (decLt at q)
+      where
+        behind : runAt reasonStep (inside at true) xs (q + 1) ≡ runAt reasonStep (inside at true) xs r
+        behind = obs-passed xs at (omega arith) (passed-part (q + 1) r (v .passed) (omega (arith, c .passed .from)) (omega arith) (omega arith))
+
+        go : Dec (at < q) → got (empty at) r ≡ reason xs at
+        go (yes h) =
+            rw (run-in reasonStep none xs at (omega arith), v .passed .all at (omega arith) (omega arith), c .passed .all at (omega arith) h, plain-passed xs at {i = at + 1} {j = q} (omega arith) (passed-part (at + 1) q (v .passed) (omega arith) (omega arith) (omega arith)) (passed-part (at + 1) q (c .passed) (omega arith) (omega arith) (omega arith)), run-in reasonStep (inside at false) xs q (omega arith), v .passed .all q (omega arith) e, c .stop (omega arith), behind, run-in reasonStep (inside at true) xs r l, v .stop l)
+        go (no h) =
+            let u : q ≡ at = omega (arith, c .passed .from) in
+            let s : isAscii (getD xs at 0) ≡ false = rw u at (c .stop (omega arith)) in
+            let b : runAt reasonStep (inside at true) xs (at + 1) ≡ runAt reasonStep (inside at true) xs r = rw u at behind in
+            rw (run-in reasonStep none xs at (omega arith), v .passed .all at (omega arith) (omega arith), s, b, run-in reasonStep (inside at true) xs r l, v .stop l)
+
+pub ruleset reasons = (reason-more, reason-plain, reason-obs)

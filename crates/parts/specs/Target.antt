@@ -1,0 +1,120 @@
+-- A request target: one or more target bytes, well-formed UTF-8 as a whole, then a space (RFC 9112, 3.2, and what httparse allows beyond it).
+-- Assumes nothing.
+use Prim.Native.Nat.{ℕ, zero, suc, _+_, _-_, _≤_, _<_}
+use native.Mathlib.Omega.{arith}
+use native.Mathlib.Nat.{add-zero}
+use mathlib.Core.Path.{_≡_, refl, sym, ap, _∙_}
+use mathlib.Core.List.{List, [], _∷_}
+use mathlib.Core.Bool.{Bool, true, false, cond}
+use lib.Dec.{eqb}
+use lib.ListN.{length, getD, take, drop}
+use borrow.Author.Tests.{eq-eqb, ne-eqb}
+use Rattle.reader.specs.Machine.{Move, keep, give, before, refuse, Run, more, gave, refused, Step, after, run, runAt}
+use Rattle.reader.specs.Bytes.{drop-in}
+use Rattle.reader.specs.Skip.{Skipped, told-true, told-false}
+use Rattle.reader.specs.Laws.{run-in, run-out, resume}
+use Rattle.reader.specs.Answer.{Answer, got, short, bad}
+use Rattle.reader.specs.Chain.{reads}
+use Rattle.octets.specs.Class.{isTarget}
+use Rattle.utf8.specs.Reader.{State, step, machine, whole, utf8}
+use Rattle.parts.specs.declared.Error.{Error}
+use Rattle.parts.specs.declared.Error.the-variants.{Token}
+use Rattle.parts.specs.declared.Piece.{Piece}
+use Rattle.parts.specs.Answers.{piece}
+
+-- a run of the UTF-8 reader
+abbrev pub Utf8 : Type 0
+Utf8 = Run State ⊥ (Unit {0})
+
+-- no byte yet; or bytes from a position on, and what the UTF-8 reader has come to
+pub data Target : Type 0 where
+  none : Target
+  some : ℕ → Utf8 → Target
+
+abbrev pub feed : Utf8 → ℕ → ℕ → Utf8
+feed u p b = resume machine u p (b ∷ [])
+
+-- what is not UTF-8 is noticed at the space, and not before
+abbrev pub targetStep : Step Target Piece Error
+targetStep none p b = cond (isTarget b) (keep (some p (feed (more []) p b))) (refuse Token)
+targetStep (some a u) p b =
+    cond (isTarget b) (keep (some a (feed u p b)))
+    (cond (eqb b 32) (cond (whole u) (give (piece a p)) (refuse Token)) (refuse Token))
+
+abbrev pub target : List ℕ → ℕ → Answer (Unit {0}) Piece Error
+target xs at = reads targetStep none xs at
+
+-- the UTF-8 reader goes on where it was, and what it thinks of the bytes does not depend on where they stand
+resume-none : (u : Utf8) (p : ℕ) → resume machine u p [] ≡ u
+resume-none (more s) p = refl
+resume-none (gave a q) p = refl
+resume-none (refused e q) p = refl
+
+resume-move : (p : ℕ) (ys : List ℕ) (v : Move State ⊥ (Unit {0})) → resume machine (after v p (λ s. more s)) (p + 1) ys ≡ after v p (λ s. run machine s (p + 1) ys)
+resume-move p ys (keep s) = refl
+resume-move p ys (give a) = refl
+resume-move p ys (before a) = refl
+resume-move p ys (refuse e) = refl
+
+resume-fed : (u : Utf8) (p x : ℕ) (ys : List ℕ) → resume machine (feed u p x) (p + 1) ys ≡ resume machine u p (x ∷ ys)
+resume-fed (more s) p x ys = resume-move p ys (step s x)
+resume-fed (gave a q) p x ys = refl
+resume-fed (refused e q) p x ys = refl
+
+same-move : (p q : ℕ) (ys : List ℕ) (v : Move State ⊥ (Unit {0})) → ((s : State) → whole (run machine s (p + 1) ys) ≡ whole (run machine s (q + 1) ys)) → whole (after v p (λ s. run machine s (p + 1) ys)) ≡ whole (after v q (λ s. run machine s (q + 1) ys))
+same-move p q ys (keep s) ih = ih s
+same-move p q ys (give a) ih = refl
+same-move p q ys (before a) ih = refl
+same-move p q ys (refuse e) ih = refl
+
+anywhere : (ys : List ℕ) (s : State) (p q : ℕ) → whole (run machine s p ys) ≡ whole (run machine s q ys)
+anywhere [] [] p q = refl
+anywhere [] (r ∷ rs) p q = refl
+anywhere (y ∷ ys) s p q = same-move p q ys (step s y) (λ s′. anywhere ys s′ (p + 1) (q + 1))
+
+module _ (xs : List ℕ) (a : ℕ) where
+  fed : (d i : ℕ) (u : Utf8) → i + d ≤ length xs → ((k : ℕ) → i ≤ k → k < i + d → isTarget (getD xs k 0) ≡ true) → runAt targetStep (some a u) xs i ≡ runAt targetStep (some a (resume machine u i (take d (drop i xs)))) xs (i + d)
+  fed zero i u h g = rw (resume-none u i, add-zero)
+  fed (suc d) i u h g =
+      let e : i + 1 + d ≡ i + suc d = omega arith in
+      run-in targetStep (some a u) xs i (omega arith)
+      ∙ rw (g i (omega arith) (omega arith))
+      (fed d (i + 1) (feed u i (getD xs i 0)) (omega arith) (λ k lo hi. g k (omega arith) (omega arith)) ∙ rw (e, resume-fed u i (getD xs i 0) (take d (drop (i + 1) xs)), drop-in xs i (omega arith)))
+
+module _ (xs : List ℕ) (at : ℕ) where
+  pub target-none : length xs ≤ at → short tt ≡ target xs at
+  target-none h = rw (run-out targetStep none xs at h)
+
+  pub target-not : at < length xs → isTarget (getD xs at 0) ≡ false → bad Token ≡ target xs at
+  target-not h c = rw (run-in targetStep none xs at h, c)
+
+  module _ {r : ℕ} (h : at < length xs) (c : isTarget (getD xs at 0) ≡ true) (k : Skipped isTarget xs (at + 1) r) where
+    seen : Utf8
+    seen = run machine [] at (take (r - at) (drop at xs))
+
+    target-some : runAt targetStep none xs at ≡ runAt targetStep (some at seen) xs r
+    unfolding seen
+    target-some =
+        let d : at + 1 + (r - (at + 1)) ≡ r = omega (arith, k .passed .from) in
+        let n : r - at ≡ suc (r - (at + 1)) = omega (arith, k .passed .from) in
+        let l : r ≤ length xs = k .passed .inside (omega arith) in
+        rw (run-in targetStep none xs at h, c)
+        (fed xs at (r - (at + 1)) (at + 1) (feed (more []) at (getD xs at 0)) (omega arith) (λ i lo hi. k .passed .all i lo (omega arith))
+        ∙ rw (d, resume-fed (more []) at (getD xs at 0) (take (r - (at + 1)) (drop (at + 1) xs)), n, drop-in xs at h))
+
+    pub target-more : length xs ≤ r → short tt ≡ target xs at
+    target-more l = rw (target-some, run-out targetStep (some at seen) xs r l)
+
+    pub target-bad : r < length xs → (getD xs r 0 ≡ 32 → ⊥) → bad Token ≡ target xs at
+    target-bad l t = rw (target-some, run-in targetStep (some at seen) xs r l, k .stop l, ne-eqb _ _ t)
+
+    module _ (l : r < length xs) (t : getD xs r 0 ≡ 32) where
+      pub target-end : utf8 (take (r - at) (drop at xs)) ≡ true → got (piece at r) (r + 1) ≡ target xs at
+      unfolding seen
+      target-end u = rw (target-some, run-in targetStep (some at seen) xs r l, k .stop l, eq-eqb _ _ t, anywhere (take (r - at) (drop at xs)) [] at 0, u)
+
+      pub target-broken : utf8 (take (r - at) (drop at xs)) ≡ false → bad Token ≡ target xs at
+      unfolding seen
+      target-broken u = rw (target-some, run-in targetStep (some at seen) xs r l, k .stop l, eq-eqb _ _ t, anywhere (take (r - at) (drop at xs)) [] at 0, u)
+
+pub ruleset targets = (target-none, target-not, target-more, target-bad, target-end, target-broken, told-true, told-false)

@@ -1,0 +1,36 @@
+-- What a match on a part's answer says of a row of parts that begins with it: it goes as the arm says.
+-- Assumes nothing.
+use Prim.Native.Nat.{ℕ}
+use mathlib.Core.Path.{_≡_}
+use Rattle.reader.specs.Answer.{Answer, and}
+use Rattle.reader.specs.Chain.{ended, last, chain}
+use Rattle.parts.specs.declared.Error.{Error}
+use Rattle.parts.specs.declared.Piece.{Piece}
+use Rattle.parts.specs.declared.Passed.{Passed}
+use Rattle.parts.specs.declared.Found.{Found}
+use Rattle.parts.specs.declared.Number.{Number}
+use Rattle.parts.specs.Answers.{passed, found, number}
+
+-- m is what the code found and c what the arm took it for
+module _ {m c : Passed} {r : Answer (Unit {0}) (Unit {0}) Error} (e : passed m ≡ r) (h : m ≡ c) where
+  pub ended-passed : {B : Type 0} (b : B) {z : Answer (Unit {0}) B Error} → z ≡ ended b (passed c) → z ≡ ended b r
+  ended-passed b g = rw (← e, h) g
+
+  module _ {K : Type 0} (k : K) (f : Unit {0} → K) where
+    pub last-passed : {z : Answer K K (Error × K)} → z ≡ last k f (passed c) → z ≡ last k f r
+    last-passed g = rw (← e, h) g
+
+    pub chain-passed : {B : Type 0} (next : K → ℕ → Answer K B (Error × K)) {z : Answer K B (Error × K)} → z ≡ chain k f (passed c) next → z ≡ chain k f r next
+    chain-passed next g = rw (← e, h) g
+
+module _ {m c : Found} {r : Answer (Unit {0}) Piece Error} (e : found m ≡ r) (h : m ≡ c) where
+  pub and-found : {B : Type 0} (next : Piece → ℕ → Answer (Unit {0}) B Error) {z : Answer (Unit {0}) B Error} → z ≡ and (found c) next → z ≡ and r next
+  and-found next g = rw (← e, h) g
+
+  pub chain-found : {B K : Type 0} (k : K) (f : Piece → K) (next : K → ℕ → Answer K B (Error × K)) {z : Answer K B (Error × K)} → z ≡ chain k f (found c) next → z ≡ chain k f r next
+  chain-found k f next g = rw (← e, h) g
+
+pub chain-number : {m c : Number} {r : Answer (Unit {0}) ℕ Error} → number m ≡ r → m ≡ c → {B K : Type 0} (k : K) (f : ℕ → K) (next : K → ℕ → Answer K B (Error × K)) {z : Answer K B (Error × K)} → z ≡ chain k f (number c) next → z ≡ chain k f r next
+chain-number e h k f next g = rw (← e, h) g
+
+pub ruleset ways = (ended-passed, last-passed, chain-passed, and-found, chain-found, chain-number)
