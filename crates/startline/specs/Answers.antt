@@ -1,0 +1,24 @@
+-- What the code's answers mean to the reader.
+-- Assumes nothing.
+use mathlib.Core.Path.{_≡_, refl}
+use Rattle.reader.specs.Answer.{Answer, got, short, bad}
+use Rattle.reader.specs.Chain.{last}
+use Rattle.parts.specs.declared.Error.{Error}
+use Rattle.parts.specs.declared.Passed.{Passed}
+use Rattle.parts.specs.declared.Passed.the-variants as passes
+use Rattle.parts.specs.Answers.{passed}
+
+-- an answer in which k is known
+abbrev pub tell : {K : Type 0} → Passed → K → Answer K K (Error × K)
+tell (passes.At q) k = got k q
+tell passes.More k = short k
+tell (passes.Bad e) k = bad (e, k)
+
+told-last : {K : Type 0} (k : K) (p : Passed) → tell p k ≡ last k (λ _. k) (passed p)
+told-last k (passes.At q) = refl
+told-last k passes.More = refl
+told-last k (passes.Bad e) = refl
+
+-- the last part, whose answer is the whole's
+pub tell-last : {K : Type 0} (k : K) (p : Passed) {r : Answer (Unit {0}) (Unit {0}) Error} → passed p ≡ r → tell p k ≡ last k (λ _. k) r
+tell-last k p e = rw (← e) (told-last k p)

@@ -1,0 +1,344 @@
+// The start of a request and of a response: empty lines, and the request line or the status line.
+ghost use mathlib.Core.Path.{_≡_};
+ghost use Rattle.reader.specs.Chain.{ended};
+ghost use Rattle.parts.specs.declared.Error.the-variants.{Status};
+ghost use Rattle.parts.specs.Rules.{default};
+ghost use Rattle.parts.specs.Answers.{found as foundOf};
+ghost use Rattle.parts.specs.LineEnd.{lineEnd};
+ghost use Rattle.startline.specs.Answers.{tell};
+ghost use Rattle.startline.specs.RequestLine.{requestLine, fromEnd, fromVersion, fromTarget, fromMethod};
+ghost use Rattle.startline.specs.StatusLine.{statusLine, reasonEnd, fromReason, fromBehind, fromCode, fromSpace, fromVersion as statusFromVersion};
+use parts::Error;
+use parts::Found;
+use parts::Number;
+use parts::Passed;
+use parts::Piece;
+
+// A piece that is known, or not yet.
+pub enum KnownPiece {
+    Is(Piece),
+    NotYet,
+}
+
+// A number that is known, or not yet.
+pub enum KnownNumber {
+    Is(usize),
+    NotYet,
+}
+
+pub struct RequestLine {
+    pub method: KnownPiece,
+    pub target: KnownPiece,
+    pub version: KnownNumber,
+}
+
+// What reading a request line comes to, and what is known of it by then.
+pub struct RequestLineRead {
+    pub end: Passed,
+    pub line: RequestLine,
+}
+
+// The line's end.
+fn request_end(s: &[u8], at: usize, line: RequestLine) -> RequestLineRead
+    ensures { λ r. ⌜ tell (r .end) (r .line) ≡ fromEnd default (now (s .entry)) line at ⌝ }
+{
+    let end = parts::line_end(s, at, Error::NewLine);
+    RequestLineRead { end, line }
+}
+
+// A version, and the line's end.
+fn request_version(s: &[u8], at: usize, line: RequestLine) -> RequestLineRead
+    ensures { λ r. ⌜ tell (r .end) (r .line) ≡ fromVersion default (now (s .entry)) line at ⌝ }
+{
+    let found = parts::version(s, at);
+    match found {
+        Number::At(version, next) => {
+            let method = line.method;
+            let target = line.target;
+            request_end(
+                s,
+                next,
+                RequestLine {
+                    method,
+                    target,
+                    version: KnownNumber::Is(version),
+                },
+            )
+        }
+        Number::More => RequestLineRead {
+            end: Passed::More,
+            line,
+        },
+        Number::Bad(e) => RequestLineRead {
+            end: Passed::Bad(e),
+            line,
+        },
+    }
+}
+
+// A target and what follows it.
+fn request_target(s: &[u8], at: usize, line: RequestLine) -> RequestLineRead
+    ensures { λ r. ⌜ tell (r .end) (r .line) ≡ fromTarget default (now (s .entry)) line at ⌝ }
+{
+    let found = parts::target(s, at);
+    match found {
+        Found::At(target, next) => {
+            let method = line.method;
+            let version = line.version;
+            request_version(
+                s,
+                next,
+                RequestLine {
+                    method,
+                    target: KnownPiece::Is(target),
+                    version,
+                },
+            )
+        }
+        Found::More => RequestLineRead {
+            end: Passed::More,
+            line,
+        },
+        Found::Bad(e) => RequestLineRead {
+            end: Passed::Bad(e),
+            line,
+        },
+    }
+}
+
+// A method and what follows it.
+fn request_method(s: &[u8], at: usize, line: RequestLine) -> RequestLineRead
+    ensures { λ r. ⌜ tell (r .end) (r .line) ≡ fromMethod default (now (s .entry)) line at ⌝ }
+{
+    let found = parts::token(s, at, 32, Error::Token);
+    match found {
+        Found::At(method, next) => {
+            let target = line.target;
+            let version = line.version;
+            request_target(
+                s,
+                next,
+                RequestLine {
+                    method: KnownPiece::Is(method),
+                    target,
+                    version,
+                },
+            )
+        }
+        Found::More => RequestLineRead {
+            end: Passed::More,
+            line,
+        },
+        Found::Bad(e) => RequestLineRead {
+            end: Passed::Bad(e),
+            line,
+        },
+    }
+}
+
+// Empty lines and a request line, from the start of the input.
+pub fn request_line(s: &[u8]) -> RequestLineRead
+    ensures { λ r. ⌜ tell (r .end) (r .line) ≡ requestLine default (now (s .entry)) 0 ⌝ }
+{
+    let line = RequestLine {
+        method: KnownPiece::NotYet,
+        target: KnownPiece::NotYet,
+        version: KnownNumber::NotYet,
+    };
+    let passed = parts::empty_lines(s, 0);
+    match passed {
+        Passed::At(next) => request_method(s, next, line),
+        Passed::More => RequestLineRead {
+            end: Passed::More,
+            line,
+        },
+        Passed::Bad(e) => RequestLineRead {
+            end: Passed::Bad(e),
+            line,
+        },
+    }
+}
+
+pub struct StatusLine {
+    pub version: KnownNumber,
+    pub code: KnownNumber,
+    pub reason: KnownPiece,
+}
+
+// What reading a status line comes to, and what is known of it by then.
+pub struct StatusLineRead {
+    pub end: Passed,
+    pub line: StatusLine,
+}
+
+// The end of a reason's line.
+fn reason_end(s: &[u8], at: usize, reason: Piece) -> Found
+    ensures { λ r. ⌜ foundOf r ≡ ended reason (lineEnd default Status (now (s .entry)) at) ⌝ }
+{
+    let end = parts::line_end(s, at, Error::Status);
+    match end {
+        Passed::At(next) => Found::At(reason, next),
+        Passed::More => Found::More,
+        Passed::Bad(e) => Found::Bad(e),
+    }
+}
+
+// A reason, and the end of its line.
+fn reason_line(s: &[u8], at: usize) -> Found
+    ensures { λ r. ⌜ foundOf r ≡ reasonEnd default (now (s .entry)) at ⌝ }
+{
+    let found = parts::reason(s, at);
+    match found {
+        Found::At(reason, next) => reason_end(s, next, reason),
+        Found::More => Found::More,
+        Found::Bad(e) => Found::Bad(e),
+    }
+}
+
+// The last part: a reason is known once its line has ended.
+fn status_reason(s: &[u8], at: usize, line: StatusLine) -> StatusLineRead
+    ensures { λ r. ⌜ tell (r .end) (r .line) ≡ fromReason default (now (s .entry)) line at ⌝ }
+{
+    let found = reason_line(s, at);
+    match found {
+        Found::At(reason, next) => {
+            let version = line.version;
+            let code = line.code;
+            StatusLineRead {
+                end: Passed::At(next),
+                line: StatusLine {
+                    version,
+                    code,
+                    reason: KnownPiece::Is(reason),
+                },
+            }
+        }
+        Found::More => StatusLineRead {
+            end: Passed::More,
+            line,
+        },
+        Found::Bad(e) => StatusLineRead {
+            end: Passed::Bad(e),
+            line,
+        },
+    }
+}
+
+// What stands right behind the code, and the reason.
+fn status_behind(s: &[u8], at: usize, line: StatusLine) -> StatusLineRead
+    ensures { λ r. ⌜ tell (r .end) (r .line) ≡ fromBehind default (now (s .entry)) line at ⌝ }
+{
+    let passed = parts::behind_code(s, at);
+    match passed {
+        Passed::At(next) => status_reason(s, next, line),
+        Passed::More => StatusLineRead {
+            end: Passed::More,
+            line,
+        },
+        Passed::Bad(e) => StatusLineRead {
+            end: Passed::Bad(e),
+            line,
+        },
+    }
+}
+
+// A code and what follows it.
+fn status_code(s: &[u8], at: usize, line: StatusLine) -> StatusLineRead
+    ensures { λ r. ⌜ tell (r .end) (r .line) ≡ fromCode default (now (s .entry)) line at ⌝ }
+{
+    let found = parts::code(s, at);
+    match found {
+        Number::At(code, next) => {
+            let version = line.version;
+            let reason = line.reason;
+            status_behind(
+                s,
+                next,
+                StatusLine {
+                    version,
+                    code: KnownNumber::Is(code),
+                    reason,
+                },
+            )
+        }
+        Number::More => StatusLineRead {
+            end: Passed::More,
+            line,
+        },
+        Number::Bad(e) => StatusLineRead {
+            end: Passed::Bad(e),
+            line,
+        },
+    }
+}
+
+// The space behind the version, and what follows it.
+fn status_space(s: &[u8], at: usize, line: StatusLine) -> StatusLineRead
+    ensures { λ r. ⌜ tell (r .end) (r .line) ≡ fromSpace default (now (s .entry)) line at ⌝ }
+{
+    let passed = parts::space(s, at, Error::Version);
+    match passed {
+        Passed::At(next) => status_code(s, next, line),
+        Passed::More => StatusLineRead {
+            end: Passed::More,
+            line,
+        },
+        Passed::Bad(e) => StatusLineRead {
+            end: Passed::Bad(e),
+            line,
+        },
+    }
+}
+
+// A version and what follows it.
+fn status_version(s: &[u8], at: usize, line: StatusLine) -> StatusLineRead
+    ensures { λ r. ⌜ tell (r .end) (r .line) ≡ statusFromVersion default (now (s .entry)) line at ⌝ }
+{
+    let found = parts::version(s, at);
+    match found {
+        Number::At(version, next) => {
+            let code = line.code;
+            let reason = line.reason;
+            status_space(
+                s,
+                next,
+                StatusLine {
+                    version: KnownNumber::Is(version),
+                    code,
+                    reason,
+                },
+            )
+        }
+        Number::More => StatusLineRead {
+            end: Passed::More,
+            line,
+        },
+        Number::Bad(e) => StatusLineRead {
+            end: Passed::Bad(e),
+            line,
+        },
+    }
+}
+
+// Empty lines and a status line, from the start of the input.
+pub fn status_line(s: &[u8]) -> StatusLineRead
+    ensures { λ r. ⌜ tell (r .end) (r .line) ≡ statusLine default (now (s .entry)) 0 ⌝ }
+{
+    let line = StatusLine {
+        version: KnownNumber::NotYet,
+        code: KnownNumber::NotYet,
+        reason: KnownPiece::NotYet,
+    };
+    let passed = parts::empty_lines(s, 0);
+    match passed {
+        Passed::At(next) => status_version(s, next, line),
+        Passed::More => StatusLineRead {
+            end: Passed::More,
+            line,
+        },
+        Passed::Bad(e) => StatusLineRead {
+            end: Passed::Bad(e),
+            line,
+        },
+    }
+}
