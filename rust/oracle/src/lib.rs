@@ -3,6 +3,7 @@
 mod ask;
 mod piece;
 pub mod record;
+pub mod sample;
 mod slots;
 
 use answers::{Answer, Call, Query, Settings};

@@ -1,4 +1,4 @@
-//! The program `oracle`: answers queries from standard input, or writes the recorded answers.
+//! The program `oracle`: answers queries from standard input, or writes a file of answers.
 
 use answers::Answer;
 use std::io::{self, BufRead, BufWriter, Write};
@@ -9,6 +9,7 @@ oracle answers queries by asking the Rust crate httparse 1.10.1.
 
 oracle           reads queries from standard input, one a line, and writes one answer a line
 oracle record    writes the recorded answers: oracle record > recorded/answers.tsv
+oracle sample    writes more answers, as rows of numbers: oracle sample > crates/replay/stdin
 oracle --help    writes this text
 
 A query is four columns separated by TABs:
@@ -31,6 +32,8 @@ others. An empty reason is reason=+0.
 
 A line that is no query is answered `refused`, and standard error says why; then the exit status
 is 1 in the end, otherwise 0. Wrong arguments have status 2.
+
+A row of the sample is told in src/sample/row.rs.
 ";
 
 fn main() -> ExitCode {
@@ -41,11 +44,12 @@ fn main() -> ExitCode {
     let arguments: Vec<&str> = arguments.iter().map(String::as_str).collect();
     match arguments[..] {
         [] => status_of(answer_lines(&mut io::stdin().lock())),
-        ["record"] => record(),
+        ["record"] => write_made(oracle::record::text()),
+        ["sample"] => write_made(oracle::sample::text()),
         ["--help"] => status_of(write_out(HELP)),
         _ => {
             eprintln!(
-                "oracle: the arguments `{}` mean nothing; write none, `record` or `--help`",
+                "oracle: the arguments `{}` mean nothing; write none, `record`, `sample` or `--help`",
                 arguments.join(" ")
             );
             ExitCode::from(2)
@@ -68,8 +72,9 @@ fn write_out(text: &str) -> io::Result<ExitCode> {
     Ok(ExitCode::SUCCESS)
 }
 
-fn record() -> ExitCode {
-    match oracle::record::text() {
+/// Writes a whole file, or says why it could not be made.
+fn write_made(file: Result<String, String>) -> ExitCode {
+    match file {
         Ok(text) => status_of(write_out(&text)),
         Err(what) => fail(&what),
     }

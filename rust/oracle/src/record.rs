@@ -6,7 +6,8 @@ mod settings;
 
 use crate::answer;
 use answers::{differences, Call, Query, Settings};
-use heads::{Head, LONG, SHORT};
+pub(crate) use heads::Head;
+use heads::{LONG, SHORT};
 use std::collections::HashSet;
 
 const DIFFERENCES: &str = concat!(env!("CARGO_MANIFEST_DIR"), "/../../docs/DIFFERENCES.md");
@@ -19,43 +20,49 @@ const COMMENT: &str = "\
 /// Slots for all headers of any of the heads.
 const ENOUGH_SLOTS: usize = 4;
 
-/// What is put in place of each byte of the short heads.
-const REPLACEMENTS: &[u8] = b" \t:\r\n\x00\x7f\x80A0";
+/// What is put in place of a byte to damage a head.
+pub(crate) const REPLACEMENTS: &[u8] = b" \t:\r\n\x00\x7f\x80A0";
 
 /// The whole file of recorded answers.
 pub fn text() -> Result<String, String> {
-    let document = std::fs::read_to_string(DIFFERENCES).map_err(|error| {
-        format!(
-            "cannot read {DIFFERENCES}: {error}; the first rows are its inputs, so write it first"
-        )
-    })?;
     let mut text = COMMENT.to_string();
-    for query in without_repeats(queries(&document)?) {
+    for query in queries()? {
         text += &format!("{query}\t{}\n", answer(&query)?);
     }
     Ok(text)
 }
 
-/// All queries in order, given the text of docs/DIFFERENCES.md.
-fn queries(document: &str) -> Result<Vec<Query>, String> {
-    let pairs = differences::pairs(document).map_err(|what| format!("{DIFFERENCES}: {what}"))?;
+/// All queries in order, each of them once.
+pub(crate) fn queries() -> Result<Vec<Query>, String> {
+    let pairs =
+        differences::pairs(&document()?).map_err(|what| format!("{DIFFERENCES}: {what}"))?;
     let mut queries: Vec<Query> = pairs.into_iter().map(|pair| pair.query).collect();
     queries.extend(pins::queries());
     queries.extend(SHORT.iter().chain(&LONG).flat_map(prefixes));
     queries.extend(SHORT.iter().chain(&LONG).flat_map(slot_counts));
     queries.extend(SHORT.iter().flat_map(damages));
     queries.extend(settings::queries());
-    Ok(queries)
+    Ok(without_repeats(queries))
 }
 
-fn without_repeats(mut queries: Vec<Query>) -> Vec<Query> {
+/// The text of docs/DIFFERENCES.md.
+fn document() -> Result<String, String> {
+    std::fs::read_to_string(DIFFERENCES).map_err(|error| {
+        format!(
+            "cannot read {DIFFERENCES}: {error}; the first rows are its inputs, so write it first"
+        )
+    })
+}
+
+/// The queries in order, without those that stand further up already.
+pub(crate) fn without_repeats(mut queries: Vec<Query>) -> Vec<Query> {
     let mut seen = HashSet::new();
     queries.retain(|query| seen.insert(query.to_string()));
     queries
 }
 
 /// A query with all settings off; a chunk size line, which has no headers, needs no slots.
-fn plain(call: Call, slots: usize, input: &[u8]) -> Query {
+pub(crate) fn plain(call: Call, slots: usize, input: &[u8]) -> Query {
     Query {
         call,
         settings: Settings::default(),
@@ -72,7 +79,7 @@ fn prefixes(head: &Head) -> Vec<Query> {
 }
 
 /// The whole head with no slot, one, one too few and exactly enough.
-fn slot_counts(head: &Head) -> Vec<Query> {
+pub(crate) fn slot_counts(head: &Head) -> Vec<Query> {
     [0, 1, head.headers.saturating_sub(1), head.headers]
         .into_iter()
         .map(|slots| plain(head.call, slots, head.input))

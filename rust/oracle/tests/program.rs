@@ -54,7 +54,9 @@ fn a_bad_line_keeps_its_place() {
 #[test]
 fn help_is_given_and_other_arguments_refused() {
     let help = run(&["--help"], b"");
-    assert!(String::from_utf8_lossy(&help.stdout).contains("oracle record"));
+    for command in ["oracle record", "oracle sample"] {
+        assert!(String::from_utf8_lossy(&help.stdout).contains(command));
+    }
     assert_eq!(help.status.code(), Some(0));
 
     for arguments in [&["-h"][..], &["record", "twice"]] {

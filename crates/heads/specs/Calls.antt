@@ -1,0 +1,35 @@
+-- What the calls answer: the reader of a request and of a response, for every input and every number of slots.
+-- Assumes nothing.
+use Prim.Native.Nat.{ℕ}
+use mathlib.Core.Path.{_≡_}
+use mathlib.Core.List.{List, []}
+use Rattle.reader.specs.Seq.{first}
+use Rattle.parts.specs.declared.Passed.{Passed}
+use Rattle.parts.specs.Rules.{Rules, default}
+use Rattle.parts.specs.EmptyLines.{start}
+use Rattle.startline.specs.declared.RequestLine.{RequestLine}
+use Rattle.startline.specs.declared.StatusLine.{StatusLine}
+use Rattle.startline.specs.RequestLine.{requestLineStep, requestLine}
+use Rattle.startline.specs.RequestLine as requests
+use Rattle.startline.specs.StatusLine.{statusLineStep, statusLine}
+use Rattle.startline.specs.StatusLine as statuses
+use Rattle.fields.specs.Block.{block}
+use Rattle.heads.specs.Head.{Heads, head, over, headed, head-parts, Told, head-block, head-more, head-bad}
+
+unfoldable pub request : Rules → ℕ → List ℕ → Heads RequestLine
+request r n xs = head r n (requestLineStep r) requests.lineKnown (first start) xs
+
+unfoldable pub response : Rules → ℕ → List ℕ → Heads StatusLine
+response r n xs = head r n (statusLineStep r) statuses.lineKnown (first start) xs
+
+-- by its start line and its block
+module _ (n : ℕ) (xs : List ℕ) {end : Passed} {count : ℕ} {old new : List ℕ} where
+  pub request-whole : {line : RequestLine} → Told (headed (requestLine default xs 0) (λ k q. over k (block default n [] xs q))) end line count old new → Told (request default n xs) end line count old new
+  unfolding request
+  request-whole t = rw (head-parts default n (requestLineStep default) requests.lineKnown (first start) xs) t
+
+  pub response-whole : {line : StatusLine} → Told (headed (statusLine default xs 0) (λ k q. over k (block default n [] xs q))) end line count old new → Told (response default n xs) end line count old new
+  unfolding response
+  response-whole t = rw (head-parts default n (statusLineStep default) statuses.lineKnown (first start) xs) t
+
+pub ruleset calls = (request-whole, response-whole, head-block, head-more, head-bad)

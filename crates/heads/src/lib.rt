@@ -1,0 +1,91 @@
+// The public calls: a request, a response, and a block of headers alone. They demand nothing of the caller.
+ghost use mathlib.Core.List.{[]};
+ghost use Prim.Native.Nat.{_/_};
+ghost use lib.ListN.{length};
+ghost use Rattle.parts.specs.Rules.{default};
+ghost use Rattle.fields.specs.Block.{block, Told as BlockTold};
+ghost use Rattle.heads.specs.Head.{Told};
+ghost use Rattle.heads.specs.Calls.{request as requestOf, response as responseOf};
+use fields::Block;
+use parts::Passed;
+use startline::RequestLine;
+use startline::StatusLine;
+
+// What reading a request comes to, what is known of its first line, and how many headers are in the slots.
+pub struct RequestHead {
+    pub end: Passed,
+    pub line: RequestLine,
+    pub count: usize,
+}
+
+// The same of a response.
+pub struct ResponseHead {
+    pub end: Passed,
+    pub line: StatusLine,
+    pub count: usize,
+}
+
+// A header takes four numbers of `slots`: where its name is, the name's length, where its value is, the value's length.
+pub fn request(s: &[u8], slots: &mut [usize]) -> RequestHead
+    ensures { λ r. ⌜ Told (requestOf default (length (now (slots .entry)) / 4) (now (s .entry))) (r .end) (r .line) (r .count) (now (slots .entry)) (now (slots .exit)) ⌝ }
+{
+    let read = startline::request_line(s);
+    let line = read.line;
+    let end = read.end;
+    match end {
+        Passed::At(next) => {
+            let block = fields::header_block(s, next, slots);
+            let end = block.end;
+            RequestHead {
+                end,
+                line,
+                count: block.count,
+            }
+        }
+        Passed::More => RequestHead {
+            end: Passed::More,
+            line,
+            count: 0,
+        },
+        Passed::Bad(e) => RequestHead {
+            end: Passed::Bad(e),
+            line,
+            count: 0,
+        },
+    }
+}
+
+pub fn response(s: &[u8], slots: &mut [usize]) -> ResponseHead
+    ensures { λ r. ⌜ Told (responseOf default (length (now (slots .entry)) / 4) (now (s .entry))) (r .end) (r .line) (r .count) (now (slots .entry)) (now (slots .exit)) ⌝ }
+{
+    let read = startline::status_line(s);
+    let line = read.line;
+    let end = read.end;
+    match end {
+        Passed::At(next) => {
+            let block = fields::header_block(s, next, slots);
+            let end = block.end;
+            ResponseHead {
+                end,
+                line,
+                count: block.count,
+            }
+        }
+        Passed::More => ResponseHead {
+            end: Passed::More,
+            line,
+            count: 0,
+        },
+        Passed::Bad(e) => ResponseHead {
+            end: Passed::Bad(e),
+            line,
+            count: 0,
+        },
+    }
+}
+
+pub fn headers(s: &[u8], slots: &mut [usize]) -> Block
+    ensures { λ r. ⌜ BlockTold (block default (length (now (slots .entry)) / 4) [] (now (s .entry)) 0) r (now (slots .entry)) (now (slots .exit)) ⌝ }
+{
+    fields::header_block(s, 0, slots)
+}

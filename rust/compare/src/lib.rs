@@ -1,0 +1,19 @@
+//! Headreader and httparse side by side: the same call on the same bytes must leave the same numbers behind.
+
+mod case;
+mod comparer;
+mod cores;
+pub mod heads;
+mod numbers;
+mod ours;
+mod random;
+mod shrink;
+mod tally;
+mod text;
+mod theirs;
+
+pub use case::Case;
+pub use comparer::Comparer;
+pub use cores::on_all_cores;
+pub use random::Random;
+pub use tally::Tally;

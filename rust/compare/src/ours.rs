@@ -1,0 +1,52 @@
+//! What Headreader answers, by its C functions.
+
+use crate::numbers::Numbers;
+use crate::Case;
+use answers::Call;
+
+extern "C" {
+    fn hr_request(
+        start: *const u8,
+        length: usize,
+        slots: *mut u64,
+        room: usize,
+        out: *mut u64,
+        settings: u32,
+    ) -> u32;
+    fn hr_response(
+        start: *const u8,
+        length: usize,
+        slots: *mut u64,
+        room: usize,
+        out: *mut u64,
+        settings: u32,
+    ) -> u32;
+    fn hr_headers(
+        start: *const u8,
+        length: usize,
+        slots: *mut u64,
+        room: usize,
+        out: *mut u64,
+    ) -> u32;
+    fn hr_chunk_size(start: *const u8, length: usize, out: *mut u64) -> u32;
+}
+
+/// All settings off.
+const DEFAULT: u32 = 0;
+
+/// Makes the call; `numbers` must have been lent with the room of the case.
+pub fn read(case: &Case, numbers: &mut Numbers) {
+    let (start, length) = (case.input.as_ptr(), case.input.len());
+    let (slots, room) = (numbers.slots.pointer(), numbers.slots.numbers().len());
+    let out = numbers.out.pointer();
+    // SAFETY: each pointer is to as many live elements as its length says, eight for `out`, and
+    // those to be written overlap nothing.
+    numbers.status = unsafe {
+        match case.call {
+            Call::Request => hr_request(start, length, slots, room, out, DEFAULT),
+            Call::Response => hr_response(start, length, slots, room, out, DEFAULT),
+            Call::Headers => hr_headers(start, length, slots, room, out),
+            Call::ChunkSize => hr_chunk_size(start, length, out),
+        }
+    };
+}

@@ -1,0 +1,48 @@
+//! How many comparisons were made, by how httparse's reading ended.
+
+use crate::text::STATUSES;
+use std::fmt;
+use std::ops::AddAssign;
+
+/// The number of comparisons for each status.
+#[derive(Clone, Copy, Default)]
+pub struct Tally([u64; STATUSES.len()]);
+
+impl Tally {
+    /// Counts one comparison; a status is an index, since httparse's answer was translated to it.
+    pub fn count(&mut self, status: u32) {
+        self.0[status as usize] += 1;
+    }
+
+    pub fn total(&self) -> u64 {
+        self.0.iter().sum()
+    }
+
+    /// Panics if one of the statuses never came, for then the cases were too few.
+    pub fn assert_seen(&self, statuses: &[usize]) {
+        for &status in statuses {
+            assert!(self.0[status] > 0, "no case was {}", STATUSES[status]);
+        }
+    }
+}
+
+impl AddAssign for Tally {
+    fn add_assign(&mut self, other: Tally) {
+        for (sum, more) in self.0.iter_mut().zip(other.0) {
+            *sum += more;
+        }
+    }
+}
+
+impl fmt::Display for Tally {
+    fn fmt(&self, formatter: &mut fmt::Formatter<'_>) -> fmt::Result {
+        let refused: u64 = self.0[2..].iter().sum();
+        write!(
+            formatter,
+            "{} comparisons ({} complete, {} incomplete, {refused} errors)",
+            self.total(),
+            self.0[0],
+            self.0[1]
+        )
+    }
+}

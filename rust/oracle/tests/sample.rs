@@ -1,0 +1,97 @@
+//! The sample is what the oracle makes now, of the size wanted, and shows every kind of answer.
+
+use std::collections::{BTreeMap, HashSet};
+use std::ops::RangeInclusive;
+
+const SAMPLE: &str = concat!(env!("CARGO_MANIFEST_DIR"), "/../../crates/replay/stdin");
+
+const ROWS: RangeInclusive<usize> = 20_000..=30_000;
+const MOST_BYTES: usize = 2_500_000;
+
+/// For each call the kinds that it can answer; src/sample/row.rs tells the numbers of both.
+const KINDS: [(u64, &[u64]); 4] = [
+    (0, &[0, 1, 2, 3, 4, 6, 7, 8]),
+    (1, &[0, 1, 2, 3, 4, 5, 7, 8]),
+    (2, &[0, 1, 2, 3, 4, 7]),
+    (3, &[0, 1, 9]),
+];
+
+/// How many rows of a call each of its kinds has at least.
+const FEWEST: usize = 50;
+
+fn sample() -> String {
+    std::fs::read_to_string(SAMPLE).unwrap_or_else(|error| panic!("cannot read {SAMPLE}: {error}"))
+}
+
+#[test]
+fn the_sample_is_up_to_date() {
+    let sample = sample();
+    let made = oracle::sample::text().unwrap();
+    let advice = "make the file again: oracle sample > crates/replay/stdin";
+    for (index, (old, new)) in sample.lines().zip(made.lines()).enumerate() {
+        assert_eq!(old, new, "line {} differs; {advice}", index + 1);
+    }
+    assert!(sample == made, "one of the two goes on; {advice}");
+}
+
+#[test]
+fn the_sample_is_of_the_size_wanted() {
+    let sample = sample();
+    let rows: Vec<&str> = sample.lines().collect();
+    println!("{} rows, {} bytes", rows.len(), sample.len());
+    assert!(ROWS.contains(&rows.len()));
+    assert!(sample.len() <= MOST_BYTES);
+    let distinct: HashSet<&str> = rows.iter().copied().collect();
+    assert_eq!(distinct.len(), rows.len(), "a row stands there twice");
+}
+
+#[test]
+fn every_row_has_the_form_told() {
+    for row in sample().lines() {
+        let words: Vec<&str> = row.split(' ').collect();
+        let call = number(words[0]);
+        let slots = number(words[1]);
+        assert!(slots <= if call == 3 { 0 } else { 16 }, "{row}");
+        assert!(is_hexadecimal(words[2]), "{row}");
+        let outs: Vec<u64> = words[3..].iter().map(|word| number(word)).collect();
+        let written = if call == 3 { 0 } else { outs[2] };
+        assert!(written <= slots, "{row}");
+        assert_eq!(outs.len() as u64, 9 + 4 * written, "{row}");
+    }
+}
+
+#[test]
+fn every_kind_occurs_often_enough() {
+    let mut counts: BTreeMap<(u64, u64), usize> = BTreeMap::new();
+    for row in sample().lines() {
+        let words: Vec<&str> = row.split(' ').collect();
+        *counts
+            .entry((number(words[0]), number(words[3])))
+            .or_default() += 1;
+    }
+    let expected: Vec<(u64, u64)> = KINDS
+        .iter()
+        .flat_map(|&(call, kinds)| kinds.iter().map(move |&kind| (call, kind)))
+        .collect();
+    assert!(counts.keys().eq(&expected), "{counts:?}");
+    for ((call, kind), count) in counts {
+        println!("call {call} kind {kind}: {count} rows");
+        assert!(count >= FEWEST, "call {call} kind {kind}");
+    }
+}
+
+/// A number that is written as the numbers of a row are.
+fn number(word: &str) -> u64 {
+    let number: u64 = word
+        .parse()
+        .unwrap_or_else(|error| panic!("`{word}`: {error}"));
+    assert_eq!(number.to_string(), word);
+    number
+}
+
+/// Whether a word is an input of at most 1,000 bytes in its one form.
+fn is_hexadecimal(word: &str) -> bool {
+    let is_digit = |byte: u8| matches!(byte, b'0'..=b'9' | b'a'..=b'f');
+    word == "-"
+        || (2..=2_000).contains(&word.len()) && word.len() % 2 == 0 && word.bytes().all(is_digit)
+}
