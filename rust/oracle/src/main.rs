@@ -33,7 +33,7 @@ others. An empty reason is reason=+0.
 A line that is no query is answered `refused`, and standard error says why; then the exit status
 is 1 in the end, otherwise 0. Wrong arguments have status 2.
 
-A row of the sample is told in src/sample/row.rs.
+The form of a row of the sample is told in rust/oracle/src/sample/row.rs.
 ";
 
 fn main() -> ExitCode {

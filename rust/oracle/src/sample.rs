@@ -1,5 +1,7 @@
-//! The rule by which the sample is made: many of httparse's answers under default settings, as
-//! rows of numbers that a proved program replays; the same rows at every run.
+//! The rule by which the sample is made: the same rows at every run.
+//!
+//! The sample is many of httparse's answers under default settings, as rows of numbers; a proved
+//! program reads them from its standard input and replays them.
 
 mod chunk_lines;
 mod heads;
@@ -10,11 +12,11 @@ mod strings;
 use crate::{answer, record};
 use answers::{Query, Settings};
 
-/// The most slots that a row has room for.
-const MOST_SLOTS: usize = 16;
+/// How many slots the program that replays the rows has room for.
+const ROOM_FOR_SLOTS: usize = 16;
 
-/// The most bytes of input that a row has room for.
-const LONGEST_INPUT: usize = 1_000;
+/// How many bytes of input it has room for.
+const ROOM_FOR_BYTES: usize = 1_000;
 
 /// The whole file: rows, each with LF at its end, and nothing else.
 pub fn text() -> Result<String, String> {
@@ -28,16 +30,16 @@ pub fn text() -> Result<String, String> {
 
 fn queries() -> Result<Vec<Query>, String> {
     let mut queries = record::queries()?;
-    queries.retain(has_room);
+    queries.retain(can_be_replayed);
     queries.extend(starts::queries());
     queries.extend(chunk_lines::queries());
     queries.extend(heads::queries());
     Ok(queries)
 }
 
-/// Whether a query fits into a row, which cannot tell settings.
-fn has_room(query: &Query) -> bool {
+/// Whether there is room for a query, and it has no settings, which a row cannot tell.
+fn can_be_replayed(query: &Query) -> bool {
     query.settings == Settings::default()
-        && query.slots <= MOST_SLOTS
-        && query.input.len() <= LONGEST_INPUT
+        && query.slots <= ROOM_FOR_SLOTS
+        && query.input.len() <= ROOM_FOR_BYTES
 }

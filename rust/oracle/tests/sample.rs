@@ -52,7 +52,7 @@ fn every_row_has_the_form_told() {
         let call = number(words[0]);
         let slots = number(words[1]);
         assert!(slots <= if call == 3 { 0 } else { 16 }, "{row}");
-        assert!(is_hexadecimal(words[2]), "{row}");
+        assert!(is_input(words[2]), "{row}");
         let outs: Vec<u64> = words[3..].iter().map(|word| number(word)).collect();
         let written = if call == 3 { 0 } else { outs[2] };
         assert!(written <= slots, "{row}");
@@ -90,8 +90,12 @@ fn number(word: &str) -> u64 {
 }
 
 /// Whether a word is an input of at most 1,000 bytes in its one form.
-fn is_hexadecimal(word: &str) -> bool {
-    let is_digit = |byte: u8| matches!(byte, b'0'..=b'9' | b'a'..=b'f');
-    word == "-"
-        || (2..=2_000).contains(&word.len()) && word.len() % 2 == 0 && word.bytes().all(is_digit)
+fn is_input(word: &str) -> bool {
+    let is_short = (1..=2_000).contains(&word.len());
+    word == "-" || is_short && word.as_bytes().chunks(2).all(is_hexadecimal)
+}
+
+/// Whether a byte is written as two lower-case hexadecimal digits.
+fn is_hexadecimal(byte: &[u8]) -> bool {
+    byte.len() == 2 && byte.iter().all(|digit| b"0123456789abcdef".contains(digit))
 }

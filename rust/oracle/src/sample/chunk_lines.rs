@@ -4,7 +4,7 @@ use super::strings;
 use crate::record::plain;
 use answers::{Call, Query};
 
-/// Digits of each kind, and all bytes that the line tells from others, and two others.
+/// Digits of each kind, every other byte that means something in the line, and two that do not.
 const ALPHABET: &[u8] = b"0fFg \t;\r\nx";
 
 /// One digit more than is allowed, in an order that shows if one is lost.

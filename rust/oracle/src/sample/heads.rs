@@ -1,6 +1,6 @@
 //! Four heads as they are sent in earnest: their beginnings, slot counts and damages.
 
-use super::MOST_SLOTS;
+use super::ROOM_FOR_SLOTS;
 use crate::record::{plain, slot_counts, Head, REPLACEMENTS};
 use answers::{Call, Query};
 
@@ -87,7 +87,7 @@ pub fn queries() -> Vec<Query> {
 fn beginnings(head: &Head) -> Vec<Query> {
     (0..=head.input.len())
         .filter(|&length| length % 10 == 0 || is_by_a_line_end(head.input, length))
-        .map(|length| plain(head.call, MOST_SLOTS, &head.input[..length]))
+        .map(|length| plain(head.call, ROOM_FOR_SLOTS, &head.input[..length]))
         .collect()
 }
 

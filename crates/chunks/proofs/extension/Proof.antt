@@ -1,0 +1,16 @@
+-- `chunks::extension` meets its contract: each way through it is one way of its machine.
+-- Assumes nothing.
+use borrow.Author.Needs.{needs}
+use Rattle.chunks.specs.Chunk.{behinds}
+use Rattle.chunks.proofs.extension.Statement.{statement}
+use Rattle.chunks.proofs.extension.Tie as tie
+
+pub extension-spec : {M : Type 1} → statement M
+extension-spec =
+    tie.close
+    (tie.spec
+    (λ c κs. search needs)
+    (λ c. search (needs, behinds))
+    (λ c. search needs)
+    (λ c κs. search needs)
+    (λ c. search (needs, behinds)))

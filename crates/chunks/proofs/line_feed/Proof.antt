@@ -1,0 +1,16 @@
+-- `chunks::line_feed` meets its contract: each way through it is one way of its machine.
+-- Assumes nothing.
+use borrow.Author.Needs.{needs}
+use Rattle.chunks.specs.Chunk.{behinds}
+use Rattle.chunks.proofs.line_feed.Statement.{statement}
+use Rattle.chunks.proofs.line_feed.Tie as tie
+
+pub line-feed-spec : {M : Type 1} → statement M
+line-feed-spec =
+    tie.close
+    (tie.spec
+    (λ c. search (needs, behinds))
+    (λ c. search needs)
+    (λ c. search needs)
+    (λ c. search (needs, behinds))
+    (λ c. search (needs, behinds)))
