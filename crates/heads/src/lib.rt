@@ -63,12 +63,12 @@ pub fn response(s: &[u8], slots: &mut [usize]) -> ResponseHead
     let end = read.end;
     match end {
         Passed::At(next) => {
-            let block = fields::header_block(s, next, slots);
-            let end = block.end;
+            let rest = fields::header_block(s, next, slots);
+            let end = rest.end;
             ResponseHead {
                 end,
                 line,
-                count: block.count,
+                count: rest.count,
             }
         }
         Passed::More => ResponseHead {

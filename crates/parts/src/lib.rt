@@ -139,22 +139,22 @@ pub fn target(s: &[u8], at: usize) -> Found
     if !octets::is_target(s[at]) {
         return Found::Bad(Error::Token);
     }
-    let stop = octets::skip_target(s, at + 1);
-    if s.len() <= stop {
+    let gap = octets::skip_target(s, at + 1);
+    if s.len() <= gap {
         return Found::More;
     }
-    if s[stop] != 32 {
+    if s[gap] != 32 {
         return Found::Bad(Error::Token);
     }
-    if !utf8::is_utf8(&s[at..stop]) {
+    if !utf8::is_utf8(&s[at..gap]) {
         return Found::Bad(Error::Token);
     }
     Found::At(
         Piece {
             offset: at,
-            length: stop - at,
+            length: gap - at,
         },
-        stop + 1,
+        gap + 1,
     )
 }
 

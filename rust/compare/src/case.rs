@@ -3,6 +3,14 @@
 use crate::numbers::SLOT;
 use answers::{Call, Query, Settings};
 
+/// Every call.
+pub const CALLS: [Call; 4] = [
+    Call::Request,
+    Call::Response,
+    Call::Headers,
+    Call::ChunkSize,
+];
+
 /// What is read, as what, and how much is lent for its headers.
 #[derive(Clone, Copy)]
 pub struct Case<'input> {

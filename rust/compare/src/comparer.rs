@@ -4,27 +4,27 @@ use crate::numbers::Numbers;
 use crate::shrink::shrink;
 use crate::{ours, text, theirs, Case, Tally};
 
-/// Headreader, or another reader that is to answer as httparse does, beside httparse.
+/// Makes a call, and writes what it answers.
+type Reader = dyn Fn(&Case, &mut Numbers);
+
+/// A reader that is to answer as httparse does, beside httparse.
 pub struct Comparer {
-    reader: Box<dyn Fn(&Case, &mut Numbers)>,
+    name: &'static str,
+    reader: Box<Reader>,
     ours: Numbers,
     theirs: Numbers,
     tally: Tally,
 }
 
-impl Default for Comparer {
-    fn default() -> Comparer {
-        Comparer::new()
-    }
-}
-
 impl Comparer {
-    pub fn new() -> Comparer {
-        Comparer::of(ours::read)
+    pub fn of_headreader() -> Comparer {
+        Comparer::of("Headreader", ours::read)
     }
 
-    fn of(reader: impl Fn(&Case, &mut Numbers) + 'static) -> Comparer {
+    /// Other readers are for the tests of this file.
+    fn of(name: &'static str, reader: impl Fn(&Case, &mut Numbers) + 'static) -> Comparer {
         Comparer {
+            name,
             reader: Box::new(reader),
             ours: Numbers::default(),
             theirs: Numbers::default(),
@@ -61,11 +61,129 @@ impl Comparer {
         };
         self.differ(&shortest);
         format!(
-            "the two differ on this query, with {} numbers lent:\n{}\nours:   {}\ntheirs: {}",
+            "{} and httparse differ on this query (numbers lent: {}):\n{}\n{}: {}\nhttparse: {}",
+            self.name,
             shortest.room(),
             shortest.query(),
+            self.name,
             text::line(case.call, &self.ours),
             text::line(case.call, &self.theirs)
         )
+    }
+}
+
+#[cfg(test)]
+mod tests {
+    use super::*;
+    use crate::numbers::UNTOUCHED;
+    use answers::Call;
+
+    /// Every call, complete, incomplete and refused, with written slots, free ones and a remainder.
+    const CASES: [Case; 8] = [
+        case(Call::Request, b"GET / HTTP/1.1\r\nA: b\r\n\r\n"),
+        case(Call::Request, b"GET / HTTP/1.0\nA: b\n"),
+        case(Call::Request, b"GET /\xff "),
+        case(Call::Response, b"HTTP/1.1 200 OK\r\nA: b\r\n\r\n"),
+        case(Call::Response, b"HTTP/1.0 200\n:"),
+        case(Call::Headers, b"A: b\r\n\r\n"),
+        case(Call::ChunkSize, b"1f\r\n"),
+        case(Call::ChunkSize, b"g"),
+    ];
+
+    const fn case(call: Call, input: &'static [u8]) -> Case<'static> {
+        Case {
+            call,
+            slots: 2,
+            remainder: 3,
+            input,
+        }
+    }
+
+    /// Whether httparse's own answer is told from one that was changed.
+    fn notices(case: &Case, change: impl Fn(&mut Numbers) + 'static) -> bool {
+        let changed = move |case: &Case, numbers: &mut Numbers| {
+            theirs::read(case, numbers);
+            change(numbers);
+        };
+        Comparer::of("a changed httparse", changed).differ(case)
+    }
+
+    #[test]
+    fn equal_answers_do_not_differ() {
+        for case in &CASES {
+            assert!(!notices(case, |_| {}));
+        }
+    }
+
+    #[test]
+    fn another_status_is_noticed() {
+        for case in &CASES {
+            for more in 1..10 {
+                assert!(notices(case, move |numbers| numbers.status =
+                    (numbers.status + more) % 10));
+            }
+        }
+    }
+
+    /// Changes each number alone, the guards' too, in ways in which a reader may be wrong.
+    fn assert_each_is_noticed(lent: fn(&mut Numbers) -> &mut [u64]) {
+        for case in &CASES {
+            let mut expected = Numbers::default();
+            expected.lend(case.room());
+            theirs::read(case, &mut expected);
+            for (place, &right) in lent(&mut expected).iter().enumerate() {
+                for wrong in [right ^ 1, right.wrapping_add(1), 0, UNTOUCHED] {
+                    let noticed = notices(case, move |numbers| lent(numbers)[place] = wrong);
+                    assert_eq!(noticed, wrong != right, "number {place}: {wrong}");
+                }
+            }
+        }
+    }
+
+    #[test]
+    fn each_number_of_out_is_compared() {
+        assert_each_is_noticed(|numbers| numbers.out.with_guards_mut());
+    }
+
+    #[test]
+    fn each_number_of_the_slots_is_compared() {
+        assert_each_is_noticed(|numbers| numbers.slots.with_guards_mut());
+    }
+
+    #[test]
+    fn headreader_is_what_is_compared() {
+        for case in &CASES {
+            let mut comparer = Comparer::of_headreader();
+            comparer.differ(case);
+            let mut called = Numbers::default();
+            called.lend(case.room());
+            ours::read(case, &mut called);
+            assert!(comparer.ours == called);
+        }
+    }
+
+    /// A reader that takes 0x80 for an error in a value wherever it stands.
+    fn wrong_at_0x80(case: &Case, numbers: &mut Numbers) {
+        theirs::read(case, numbers);
+        if case.input.contains(&0x80) {
+            numbers.status = 3;
+        }
+    }
+
+    #[test]
+    #[should_panic(
+        expected = "a wrong reader and httparse differ on this query (numbers lent: 11):
+request\tdefault\t2\t\"\\x80\"
+a wrong reader: error HeaderValue end=0 given=0 known=0 method=0+0 target=0+0 version=0 \
+slots=[] and 11 untouched numbers
+httparse: error Token end=0 given=0 known=0 method=0+0 target=0+0 version=0 \
+slots=[] and 11 untouched numbers"
+    )]
+    fn a_difference_is_told_with_the_shortest_input() {
+        let long = [&b"GET / HTTP/1.1\r\n"[..], &b"A: b\x80\r\n".repeat(100)].concat();
+        Comparer::of("a wrong reader", wrong_at_0x80).compare(&Case {
+            input: &long,
+            ..CASES[0]
+        });
     }
 }

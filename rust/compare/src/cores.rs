@@ -2,20 +2,22 @@
 
 use crate::{Comparer, Tally};
 use std::num::NonZero;
-use std::panic::resume_unwind;
+use std::panic::{catch_unwind, resume_unwind, AssertUnwindSafe};
 use std::sync::atomic::{AtomicUsize, Ordering};
 use std::thread;
 
 /// Does every job, each thread with a comparer of its own, and counts all comparisons.
-pub fn on_all_cores<Job: Sync>(
-    jobs: &[Job],
-    work: impl Fn(&Job, &mut Comparer) + Sync,
-) -> Tally {
+pub fn on_all_cores<Job: Sync>(jobs: &[Job], work: impl Fn(&Job, &mut Comparer) + Sync) -> Tally {
     let next = AtomicUsize::new(0);
     let take_jobs = || {
-        let mut comparer = Comparer::new();
+        let mut comparer = Comparer::of_headreader();
         while let Some(job) = jobs.get(next.fetch_add(1, Ordering::Relaxed)) {
-            work(job, &mut comparer);
+            let work = AssertUnwindSafe(|| work(job, &mut comparer));
+            catch_unwind(work).unwrap_or_else(|panic| {
+                // One difference is enough, so the other threads find no more jobs.
+                next.store(jobs.len(), Ordering::Relaxed);
+                resume_unwind(panic)
+            });
         }
         comparer.tally()
     };

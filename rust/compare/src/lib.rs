@@ -12,7 +12,7 @@ mod tally;
 mod text;
 mod theirs;
 
-pub use case::Case;
+pub use case::{Case, CALLS};
 pub use comparer::Comparer;
 pub use cores::on_all_cores;
 pub use random::Random;

@@ -1,6 +1,7 @@
 //! How many comparisons were made, by how httparse's reading ended.
 
 use crate::text::STATUSES;
+use answers::Call;
 use std::fmt;
 use std::ops::AddAssign;
 
@@ -18,11 +19,21 @@ impl Tally {
         self.0.iter().sum()
     }
 
-    /// Panics if one of the statuses never came, for then the cases were too few.
-    pub fn assert_seen(&self, statuses: &[usize]) {
-        for &status in statuses {
-            assert!(self.0[status] > 0, "no case was {}", STATUSES[status]);
+    /// Panics if something that a call may answer was never answered: then the cases were too few.
+    pub fn assert_all_seen(&self, call: Call) {
+        for &status in statuses(call) {
+            assert!(self.0[status] > 0, "{call} was never {}", STATUSES[status]);
         }
+    }
+}
+
+/// All that a call may answer.
+fn statuses(call: Call) -> &'static [usize] {
+    match call {
+        Call::Request => &[0, 1, 2, 3, 4, 6, 7, 8],
+        Call::Response => &[0, 1, 2, 3, 4, 5, 7, 8],
+        Call::Headers => &[0, 1, 2, 3, 4, 7],
+        Call::ChunkSize => &[0, 1, 9],
     }
 }
 

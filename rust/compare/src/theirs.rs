@@ -60,9 +60,8 @@ type Read<'input> = (
 fn request<'input>(input: &'input [u8], lent: &mut [Header<'input>]) -> Read<'input> {
     let mut request = httparse::Request::new(lent);
     let result = request.parse(input);
-    let known = bit(METHOD, request.method)
-        + bit(TARGET, request.path)
-        + bit(VERSION, request.version);
+    let known =
+        bit(METHOD, request.method) + bit(TARGET, request.path) + bit(VERSION, request.version);
     let [method, method_length] = place(input, request.method.map(str::as_bytes));
     let [target, target_length] = place(input, request.path.map(str::as_bytes));
     let version = request.version.map_or(0, u64::from);
@@ -73,9 +72,8 @@ fn request<'input>(input: &'input [u8], lent: &mut [Header<'input>]) -> Read<'in
 fn response<'input>(input: &'input [u8], lent: &mut [Header<'input>]) -> Read<'input> {
     let mut response = httparse::Response::new(lent);
     let result = response.parse(input);
-    let known = bit(VERSION, response.version)
-        + bit(CODE, response.code)
-        + bit(REASON, response.reason);
+    let known =
+        bit(VERSION, response.version) + bit(CODE, response.code) + bit(REASON, response.reason);
     let version = response.version.map_or(0, u64::from);
     let code = response.code.map_or(0, u64::from);
     // An empty reason may be a constant of httparse, so only one with bytes has a place.

@@ -23,16 +23,16 @@ digit c =
     rw (c .worth-of .ensures) (worth-small _ (omega (arith, k .shared-slice-known2 .given (k .before .before .loop .i))) (told-true (h .before .is-hex-digit .ensures) (h .if1 .left)))
 
 mul : tie.Need-mul-size Inv-loop μ-loop
-mul c = omega (arith, counted-fits (c .before .before .before .before .before .loop .inv) (c .if2 .left))
+mul c = omega (arith, counted-fits (c .before .before .before .before .before .loop .inv) (omega arith))
 
 add : tie.Need-add-size Inv-loop μ-loop
-add c = omega (arith, digit c, counted-fits (c .before .before .before .before .before .before .loop .inv) (c .before .if2 .left))
+add c = omega (arith, digit c, counted-fits (c .before .before .before .before .before .before .loop .inv) (omega arith))
 
 again : tie.Need-loop-again Inv-loop μ-loop
 again c =
     let h = c .before .before in
     let l = h .before .before .before in
-    counted-more (l .before .loop .inv) (l .loop-test .taken) (told-true (h .before .is-hex-digit .ensures) (h .if1 .left)) (c .before .if2 .left) (c .worth-of .ensures) (digit c)
+    counted-more (l .before .loop .inv) (l .loop-test .taken) (told-true (h .before .is-hex-digit .ensures) (h .if1 .left)) (omega arith) (c .worth-of .ensures) (digit c)
 
 pub chunk-size-spec : {M : Type 1} → statement M
 chunk-size-spec =

@@ -1,0 +1,255 @@
+//! Realistic heads made by a rule: good as they stand, of every call and many sizes.
+
+use crate::Random;
+use answers::Call;
+
+/// A head that httparse accepts, and perhaps a body behind it.
+pub struct Head {
+    pub call: Call,
+    /// How many headers it has.
+    pub headers: usize,
+    pub bytes: Vec<u8>,
+}
+
+/// What a head is to be like.
+#[derive(Clone, Copy, Debug)]
+pub struct Shape {
+    pub call: Call,
+    pub headers: usize,
+    /// The least length of the head; where it has headers and this is much, it is exactly that.
+    pub length: usize,
+    /// The line ends to choose from.
+    pub line_ends: &'static [&'static [u8]],
+}
+
+/// The most bytes of any head.
+pub const LONGEST: usize = 65_536;
+
+/// Numbers of headers with least lengths, from nothing to the most of both.
+const SIZES: [(usize, usize); 8] = [
+    (0, 0),
+    (1, 0),
+    (3, 0),
+    (8, 500),
+    (20, 1_500),
+    (100, 0),
+    (1, LONGEST),
+    (100, LONGEST),
+];
+
+const LINE_ENDS: [&[&[u8]]; 3] = [&[b"\r\n"], &[b"\n"], &[b"\r\n", b"\n"]];
+
+/// Every call with every size and every line end, and chunk size lines.
+pub fn shapes() -> Vec<Shape> {
+    let mut shapes = Vec::new();
+    for (headers, length) in SIZES {
+        for call in [Call::Request, Call::Response, Call::Headers] {
+            shapes.extend(LINE_ENDS.map(|line_ends| Shape {
+                call,
+                headers,
+                length,
+                line_ends,
+            }));
+        }
+    }
+    shapes.push(Shape {
+        call: Call::ChunkSize,
+        headers: 0,
+        length: 0,
+        line_ends: LINE_ENDS[0],
+    });
+    shapes
+}
+
+const METHODS: &[&[u8]] = &[
+    b"GET",
+    b"POST",
+    b"PUT",
+    b"DELETE",
+    b"OPTIONS",
+    b"POSTS",
+    b"M-SEARCH",
+    b"A!#$%&'*+-.^_`|~09az",
+];
+
+const TARGETS: &[&[u8]] = &[
+    b"/",
+    b"*",
+    b"/index.html",
+    b"example.com:443",
+    b"/search?q=a%20b&lang=en;page=2#top",
+    b"http://user@example.com:8080/a/long/path/that/goes/on?with=a&query=that&does=too",
+    "/caf\u{e9}/\u{20ac}/\u{1f600}".as_bytes(),
+    "/a-target-of-thirty-bytes-and-\u{7ff}\u{ffff}\u{10ffff}".as_bytes(),
+];
+
+const VERSIONS: &[&[u8]] = &[b"HTTP/1.1", b"HTTP/1.0"];
+
+const CODES: &[&[u8]] = &[b"200", b"100", b"304", b"404", b"503", b"000", b"999"];
+
+/// What may stand between code and line end, the space too.
+const REASONS: &[&[u8]] = &[
+    b" OK",
+    b"",
+    b" ",
+    b" Not Found",
+    b" Non-Authoritative Information, and more of it",
+    b"  blanks\tinside and behind \t",
+    b" caf\xe9",
+    " \u{20ac}".as_bytes(),
+];
+
+const NAMES: &[&[u8]] = &[
+    b"Host",
+    b"Accept",
+    b"User-Agent",
+    b"Cookie",
+    b"Content-Length",
+    b"Transfer-Encoding",
+    b"x",
+    b"X_1.2!#$%&'*+^`|~",
+    b"Sec-CH-UA-Full-Version-List-Of-More-Than-32-Bytes",
+];
+
+/// What may stand in front of a value and behind it.
+const BLANKS: &[&[u8]] = &[b" ", b"", b"\t", b" \t  "];
+
+const VALUES: &[&[u8]] = &[
+    b"",
+    b"0",
+    b"example.com",
+    b"*/*",
+    b"Mozilla/5.0 (X11; Linux x86_64; rv:109.0) Gecko/20100101 Firefox/115.0",
+    b"text/html,application/xhtml+xml;q=0.9",
+    b"a=1; b=\"two\"; c=three:3",
+    b"words\twith\ttabs",
+    b"obs-text \x80\xe9\xff",
+    "\u{20ac} in UTF-8".as_bytes(),
+];
+
+/// What long values are filled with.
+const FILLING: &[u8] =
+    b"abcdefghijklmnopqrstuvwxyzABCDEFGHIJKLMNOPQRSTUVWXYZ0123456789-_=%:;, \t\xe9";
+
+const SIZES_IN_HEX: &[&[u8]] = &[b"0", b"1aF", b"00000000000000fE", b"ffffffffffffffff", b"9"];
+
+const EXTENSIONS: &[&[u8]] = &[
+    b"",
+    b" ",
+    b";x=y",
+    b" \t; name=\"a value\" ",
+    b";\n\x00\xff;",
+];
+
+const BODIES: &[&[u8]] = &[b"", b"", b"body", b"\r\n\r\n", b"\x00\xff"];
+
+/// A head of a shape, with what is left open chosen at random.
+pub fn make(shape: &Shape, random: &mut Random) -> Head {
+    let mut bytes = first_line(shape, random);
+    let last_line_end = random.choose(shape.line_ends);
+    for left in (1..=shape.headers).rev() {
+        let rest = shape
+            .length
+            .saturating_sub(bytes.len() + last_line_end.len());
+        bytes.extend(header_line(shape, rest / left, random));
+    }
+    bytes.extend_from_slice(last_line_end);
+    if bytes.len() < LONGEST {
+        bytes.extend_from_slice(random.choose(BODIES));
+    }
+    Head {
+        call: shape.call,
+        headers: shape.headers,
+        bytes,
+    }
+}
+
+/// The start line, behind empty lines or not; of a chunk size line all but its end.
+fn first_line(shape: &Shape, random: &mut Random) -> Vec<u8> {
+    let line_end = random.choose(shape.line_ends);
+    let empty_lines = line_end.repeat(random.choose(&[0, 0, 1, 3]));
+    match shape.call {
+        Call::Request => [
+            &empty_lines[..],
+            random.choose(METHODS),
+            b" ",
+            random.choose(TARGETS),
+            b" ",
+            random.choose(VERSIONS),
+            line_end,
+        ]
+        .concat(),
+        Call::Response => [
+            &empty_lines[..],
+            random.choose(VERSIONS),
+            b" ",
+            random.choose(CODES),
+            random.choose(REASONS),
+            line_end,
+        ]
+        .concat(),
+        Call::Headers => Vec::new(),
+        Call::ChunkSize => [random.choose(SIZES_IN_HEX), random.choose(EXTENSIONS)].concat(),
+    }
+}
+
+/// A header line of at least this length.
+fn header_line(shape: &Shape, length: usize, random: &mut Random) -> Vec<u8> {
+    let mut line = [
+        random.choose(NAMES),
+        b":",
+        random.choose(BLANKS),
+        random.choose(VALUES),
+    ]
+    .concat();
+    let end = [random.choose(BLANKS), random.choose(shape.line_ends)].concat();
+    let missing = length.saturating_sub(line.len() + end.len());
+    line.extend((0..missing).map(|_| random.choose(FILLING)));
+    line.extend(end);
+    line
+}
+
+#[cfg(test)]
+mod tests {
+    use super::*;
+    use crate::numbers::Numbers;
+    use crate::{theirs, Case};
+
+    fn answer(head: &Head) -> Numbers {
+        let case = Case {
+            call: head.call,
+            slots: head.headers,
+            remainder: 0,
+            input: &head.bytes,
+        };
+        let mut numbers = Numbers::default();
+        numbers.lend(case.room());
+        theirs::read(&case, &mut numbers);
+        numbers
+    }
+
+    #[test]
+    fn every_head_is_good() {
+        let mut random = Random::new(1);
+        for shape in shapes() {
+            for _ in 0..50 {
+                let head = make(&shape, &mut random);
+                let numbers = answer(&head);
+                assert_eq!(numbers.status, 0, "{shape:?}");
+                if head.call != Call::ChunkSize {
+                    assert_eq!(numbers.out.numbers()[1], head.headers as u64, "{shape:?}");
+                }
+            }
+        }
+    }
+
+    #[test]
+    fn the_largest_heads_have_their_length() {
+        let mut random = Random::new(1);
+        for shape in shapes().iter().filter(|shape| shape.length == LONGEST) {
+            let head = make(shape, &mut random);
+            assert_eq!(head.bytes.len(), LONGEST, "{shape:?}");
+            assert_eq!(answer(&head).out.numbers()[0], LONGEST as u64, "{shape:?}");
+        }
+    }
+}
