@@ -23,7 +23,7 @@ use Rattle.parts.specs.declared.Passed.{Passed}
 use Rattle.parts.specs.declared.Passed.the-variants as passes
 use Rattle.parts.specs.Rules.{Rules, default}
 use Rattle.parts.specs.LineEnd.{LineEnd, begin, cr, lineEndStep}
-use Rattle.parts.specs.Word.{Word, none, some}
+use Rattle.words.specs.Word.{Word, none, some}
 use Rattle.fields.specs.declared.Header.{Header}
 use Rattle.fields.specs.declared.Line.{Line}
 use Rattle.fields.specs.declared.Line.the-variants as lines

@@ -18,7 +18,7 @@ use Rattle.parts.specs.declared.Error.the-variants.{HeaderName, HeaderValue, Ne
 use Rattle.parts.specs.declared.Piece.{Piece}
 use Rattle.parts.specs.Rules.{Rules, default}
 use Rattle.parts.specs.LineEnd.{LineEnd, begin, lineEndStep, lineEnd}
-use Rattle.parts.specs.Word.{Word, none, wordStep, word}
+use Rattle.words.specs.Word.{Word, none, wordStep, word}
 use Rattle.fields.specs.declared.Header.{Header}
 use Rattle.fields.specs.declared.Line.{Line}
 use Rattle.fields.specs.declared.Line.the-variants as lines

@@ -110,7 +110,7 @@ pub fn header_line(s: &[u8], at: usize) -> Line
     if (s[at] == 13) | (s[at] == 10) {
         return block_end(s, at);
     }
-    let found = parts::token(s, at, 58, Error::HeaderName);
+    let found = words::token(s, at, 58, Error::HeaderName);
     match found {
         Found::At(name, next) => header_value(s, name, next),
         Found::More => Line::More,

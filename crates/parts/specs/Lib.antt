@@ -3,9 +3,3 @@ pub mod Answers
 pub mod Ways
 pub mod LineEnd
 pub mod EmptyLines
-pub mod Word
-pub mod Target
-pub mod Version
-pub mod Space
-pub mod Code
-pub mod Reason

@@ -14,11 +14,11 @@ use Rattle.parts.specs.declared.Piece.{Piece}
 use Rattle.parts.specs.Rules.{Rules, default}
 use Rattle.parts.specs.LineEnd.{LineEnd, begin, lineEndStep, lineEnd}
 use Rattle.parts.specs.EmptyLines.{EmptyLines, start, emptyLinesStep, emptyLines}
-use Rattle.parts.specs.Word.{Word, wordStep, word}
-use Rattle.parts.specs.Word as words
-use Rattle.parts.specs.Target.{Target, targetStep, target}
-use Rattle.parts.specs.Target as targets
-use Rattle.parts.specs.Version.{name, versionStep, version}
+use Rattle.words.specs.Word.{Word, wordStep, word}
+use Rattle.words.specs.Word as words
+use Rattle.words.specs.Target.{Target, targetStep, target}
+use Rattle.words.specs.Target as targets
+use Rattle.status.specs.Version.{name, versionStep, version}
 use Rattle.startline.specs.declared.RequestLine.{RequestLine}
 use Rattle.startline.specs.declared.KnownPiece.the-variants as pieces
 use Rattle.startline.specs.declared.KnownNumber.the-variants as numbers

@@ -14,12 +14,12 @@ use Rattle.parts.specs.declared.Piece.{Piece}
 use Rattle.parts.specs.Rules.{Rules, default}
 use Rattle.parts.specs.LineEnd.{LineEnd, begin, lineEndStep, lineEnd}
 use Rattle.parts.specs.EmptyLines.{EmptyLines, start, emptyLinesStep, emptyLines}
-use Rattle.parts.specs.Version.{name, versionStep, version}
-use Rattle.parts.specs.Space.{spaceStep, space, behindCodeStep, behindCode}
-use Rattle.parts.specs.Code.{Code, codeStep, code}
-use Rattle.parts.specs.Code as codes
-use Rattle.parts.specs.Reason.{Reason, reasonStep, reason}
-use Rattle.parts.specs.Reason as reasons
+use Rattle.status.specs.Version.{name, versionStep, version}
+use Rattle.status.specs.Space.{spaceStep, space, behindCodeStep, behindCode}
+use Rattle.status.specs.Code.{Code, codeStep, code}
+use Rattle.status.specs.Code as codes
+use Rattle.status.specs.Reason.{Reason, reasonStep, reason}
+use Rattle.status.specs.Reason as reasons
 use Rattle.startline.specs.declared.StatusLine.{StatusLine}
 use Rattle.startline.specs.declared.KnownPiece.the-variants as pieces
 use Rattle.startline.specs.declared.KnownNumber.the-variants as numbers

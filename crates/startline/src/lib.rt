@@ -50,7 +50,7 @@ fn request_end(s: &[u8], at: usize, line: RequestLine) -> RequestLineRead
 fn request_version(s: &[u8], at: usize, line: RequestLine) -> RequestLineRead
     ensures { λ r. ⌜ tell (r .end) (r .line) ≡ fromVersion default (now (s .entry)) line at ⌝ }
 {
-    let found = parts::version(s, at);
+    let found = status::version(s, at);
     match found {
         Number::At(version, next) => {
             let method = line.method;
@@ -80,7 +80,7 @@ fn request_version(s: &[u8], at: usize, line: RequestLine) -> RequestLineRead
 fn request_target(s: &[u8], at: usize, line: RequestLine) -> RequestLineRead
     ensures { λ r. ⌜ tell (r .end) (r .line) ≡ fromTarget default (now (s .entry)) line at ⌝ }
 {
-    let found = parts::target(s, at);
+    let found = words::target(s, at);
     match found {
         Found::At(target, next) => {
             let method = line.method;
@@ -110,7 +110,7 @@ fn request_target(s: &[u8], at: usize, line: RequestLine) -> RequestLineRead
 fn request_method(s: &[u8], at: usize, line: RequestLine) -> RequestLineRead
     ensures { λ r. ⌜ tell (r .end) (r .line) ≡ fromMethod default (now (s .entry)) line at ⌝ }
 {
-    let found = parts::token(s, at, 32, Error::Token);
+    let found = words::token(s, at, 32, Error::Token);
     match found {
         Found::At(method, next) => {
             let target = line.target;
@@ -187,7 +187,7 @@ fn reason_end(s: &[u8], at: usize, reason: Piece) -> Found
 fn reason_line(s: &[u8], at: usize) -> Found
     ensures { λ r. ⌜ foundOf r ≡ reasonEnd default (now (s .entry)) at ⌝ }
 {
-    let found = parts::reason(s, at);
+    let found = status::reason(s, at);
     match found {
         Found::At(reason, next) => reason_end(s, next, reason),
         Found::More => Found::More,
@@ -228,7 +228,7 @@ fn status_reason(s: &[u8], at: usize, line: StatusLine) -> StatusLineRead
 fn status_behind(s: &[u8], at: usize, line: StatusLine) -> StatusLineRead
     ensures { λ r. ⌜ tell (r .end) (r .line) ≡ fromBehind default (now (s .entry)) line at ⌝ }
 {
-    let passed = parts::behind_code(s, at);
+    let passed = status::behind_code(s, at);
     match passed {
         Passed::At(next) => status_reason(s, next, line),
         Passed::More => StatusLineRead {
@@ -246,7 +246,7 @@ fn status_behind(s: &[u8], at: usize, line: StatusLine) -> StatusLineRead
 fn status_code(s: &[u8], at: usize, line: StatusLine) -> StatusLineRead
     ensures { λ r. ⌜ tell (r .end) (r .line) ≡ fromCode default (now (s .entry)) line at ⌝ }
 {
-    let found = parts::code(s, at);
+    let found = status::code(s, at);
     match found {
         Number::At(code, next) => {
             let version = line.version;
@@ -276,7 +276,7 @@ fn status_code(s: &[u8], at: usize, line: StatusLine) -> StatusLineRead
 fn status_space(s: &[u8], at: usize, line: StatusLine) -> StatusLineRead
     ensures { λ r. ⌜ tell (r .end) (r .line) ≡ fromSpace default (now (s .entry)) line at ⌝ }
 {
-    let passed = parts::space(s, at, Error::Version);
+    let passed = status::space(s, at, Error::Version);
     match passed {
         Passed::At(next) => status_code(s, next, line),
         Passed::More => StatusLineRead {
@@ -294,7 +294,7 @@ fn status_space(s: &[u8], at: usize, line: StatusLine) -> StatusLineRead
 fn status_version(s: &[u8], at: usize, line: StatusLine) -> StatusLineRead
     ensures { λ r. ⌜ tell (r .end) (r .line) ≡ statusFromVersion default (now (s .entry)) line at ⌝ }
 {
-    let found = parts::version(s, at);
+    let found = status::version(s, at);
     match found {
         Number::At(version, next) => {
             let code = line.code;

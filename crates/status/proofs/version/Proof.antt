@@ -1,10 +1,10 @@
--- `parts::version` meets its contract: the loop has passed as many bytes of the name as it counted.
+-- `status::version` meets its contract: the loop has passed as many bytes of the name as it counted.
 -- Assumes nothing.
 use Prim.Native.Nat.{_-_}
 use borrow.Author.Needs.{needs}
-use Rattle.parts.specs.Version.{Matched, versions}
-use Rattle.parts.proofs.version.Statement.{statement}
-use Rattle.parts.proofs.version.Tie as tie
+use Rattle.status.specs.Version.{Matched, versions}
+use Rattle.status.proofs.version.Statement.{statement}
+use Rattle.status.proofs.version.Tie as tie
 
 abbrev Inv-loop : tie.InvT-loop
 Inv-loop s at i₀ k₀ i k = Matched s at i k

@@ -1,11 +1,11 @@
--- `parts::target` meets its contract: each way through it is one way of its machine.
+-- `words::target` meets its contract: each way through it is one way of its machine.
 -- Assumes nothing.
 use borrow.Author.Needs.{needs}
-use Rattle.parts.specs.Target.{targets, target-end}
+use Rattle.words.specs.Target.{targets, target-end}
 use native.Mathlib.Omega.{arith}
 use Rattle.reader.specs.Skip.{told-true}
-use Rattle.parts.proofs.target.Statement.{statement}
-use Rattle.parts.proofs.target.Tie as tie
+use Rattle.words.proofs.target.Statement.{statement}
+use Rattle.words.proofs.target.Tie as tie
 
 returns-6 : tie.Need-returns-6
 returns-6 c =

@@ -1,9 +1,9 @@
--- `parts::token` meets its contract: each way through it is one way of its machine.
+-- `words::token` meets its contract: each way through it is one way of its machine.
 -- Assumes nothing.
 use borrow.Author.Needs.{needs}
-use Rattle.parts.specs.Word.{words}
-use Rattle.parts.proofs.token.Statement.{statement}
-use Rattle.parts.proofs.token.Tie as tie
+use Rattle.words.specs.Word.{words}
+use Rattle.words.proofs.token.Statement.{statement}
+use Rattle.words.proofs.token.Tie as tie
 
 pub token-spec : {M : Type 1} → statement M
 token-spec =

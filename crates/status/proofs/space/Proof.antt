@@ -1,9 +1,9 @@
--- `parts::space` meets its contract: each way through it is one way of its machine.
+-- `status::space` meets its contract: each way through it is one way of its machine.
 -- Assumes nothing.
 use borrow.Author.Needs.{needs}
-use Rattle.parts.specs.Space.{spaces}
-use Rattle.parts.proofs.space.Statement.{statement}
-use Rattle.parts.proofs.space.Tie as tie
+use Rattle.status.specs.Space.{spaces}
+use Rattle.status.proofs.space.Statement.{statement}
+use Rattle.status.proofs.space.Tie as tie
 
 pub space-spec : {M : Type 1} → statement M
 space-spec =

@@ -1,9 +1,9 @@
--- `parts::reason` meets its contract: the bytes up to the end are text, and all of them plain or one of them not.
+-- `status::reason` meets its contract: the bytes up to the end are text, and all of them plain or one of them not.
 -- Assumes nothing.
 use borrow.Author.Needs.{needs}
-use Rattle.parts.specs.Reason.{reasons}
-use Rattle.parts.proofs.reason.Statement.{statement}
-use Rattle.parts.proofs.reason.Tie as tie
+use Rattle.status.specs.Reason.{reasons}
+use Rattle.status.proofs.reason.Statement.{statement}
+use Rattle.status.proofs.reason.Tie as tie
 
 pub reason-spec : {M : Type 1} → statement M
 reason-spec =

@@ -1,9 +1,9 @@
--- `parts::behind_code` meets its contract: each way through it is one way of its machine.
+-- `status::behind_code` meets its contract: each way through it is one way of its machine.
 -- Assumes nothing.
 use borrow.Author.Needs.{needs}
-use Rattle.parts.specs.Space.{spaces}
-use Rattle.parts.proofs.behind_code.Statement.{statement}
-use Rattle.parts.proofs.behind_code.Tie as tie
+use Rattle.status.specs.Space.{spaces}
+use Rattle.status.proofs.behind_code.Statement.{statement}
+use Rattle.status.proofs.behind_code.Tie as tie
 
 pub behind-code-spec : {M : Type 1} → statement M
 behind-code-spec =

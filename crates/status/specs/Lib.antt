@@ -1,0 +1,4 @@
+pub mod Version
+pub mod Space
+pub mod Code
+pub mod Reason

@@ -1,0 +1,65 @@
+// Words: a row of bytes of a class and the byte that ends it, as methods, header names and request targets are.
+ghost use mathlib.Core.Path.{_≡_};
+ghost use Rattle.octets.specs.Class.{isToken};
+ghost use Rattle.parts.specs.Answers.{found};
+ghost use Rattle.words.specs.Word.{word};
+ghost use Rattle.words.specs.Target.{target as targetAt};
+use parts::Error;
+use parts::Found;
+use parts::Piece;
+
+// One or more token bytes, and the byte that ends them.
+pub fn token(s: &[u8], at: usize, end: u8, error: Error) -> Found
+    ensures { λ r. ⌜ found r ≡ word isToken end error (now (s .entry)) at ⌝ }
+{
+    if s.len() <= at {
+        return Found::More;
+    }
+    if !octets::is_token(s[at]) {
+        return Found::Bad(error);
+    }
+    let stop = octets::skip_token(s, at + 1);
+    if s.len() <= stop {
+        return Found::More;
+    }
+    if s[stop] == end {
+        Found::At(
+            Piece {
+                offset: at,
+                length: stop - at,
+            },
+            stop + 1,
+        )
+    } else {
+        Found::Bad(error)
+    }
+}
+
+// One or more target bytes, and a space. That they are UTF-8 is looked at when the space is there, and not before.
+pub fn target(s: &[u8], at: usize) -> Found
+    ensures { λ r. ⌜ found r ≡ targetAt (now (s .entry)) at ⌝ }
+{
+    if s.len() <= at {
+        return Found::More;
+    }
+    if !octets::is_target(s[at]) {
+        return Found::Bad(Error::Token);
+    }
+    let gap = octets::skip_target(s, at + 1);
+    if s.len() <= gap {
+        return Found::More;
+    }
+    if s[gap] != 32 {
+        return Found::Bad(Error::Token);
+    }
+    if !utf8::is_utf8(&s[at..gap]) {
+        return Found::Bad(Error::Token);
+    }
+    Found::At(
+        Piece {
+            offset: at,
+            length: gap - at,
+        },
+        gap + 1,
+    )
+}
