@@ -45,7 +45,7 @@ abbrev pub target : List ℕ → ℕ → Answer (Unit {0}) Piece Error
 target xs at = reads targetStep none xs at
 
 -- the UTF-8 reader goes on where it was, and what it thinks of the bytes does not depend on where they stand
-resume-none : (u : Utf8) (p : ℕ) → resume machine u p [] ≡ u
+pub resume-none : (u : Utf8) (p : ℕ) → resume machine u p [] ≡ u
 resume-none (more s) p = refl
 resume-none (gave a q) p = refl
 resume-none (refused e q) p = refl
@@ -56,7 +56,7 @@ resume-move p ys (give a) = refl
 resume-move p ys (before a) = refl
 resume-move p ys (refuse e) = refl
 
-resume-fed : (u : Utf8) (p x : ℕ) (ys : List ℕ) → resume machine (feed u p x) (p + 1) ys ≡ resume machine u p (x ∷ ys)
+pub resume-fed : (u : Utf8) (p x : ℕ) (ys : List ℕ) → resume machine (feed u p x) (p + 1) ys ≡ resume machine u p (x ∷ ys)
 resume-fed (more s) p x ys = resume-move p ys (step s x)
 resume-fed (gave a q) p x ys = refl
 resume-fed (refused e q) p x ys = refl
@@ -67,7 +67,7 @@ same-move p q ys (give a) ih = refl
 same-move p q ys (before a) ih = refl
 same-move p q ys (refuse e) ih = refl
 
-anywhere : (ys : List ℕ) (s : State) (p q : ℕ) → whole (run machine s p ys) ≡ whole (run machine s q ys)
+pub anywhere : (ys : List ℕ) (s : State) (p q : ℕ) → whole (run machine s p ys) ≡ whole (run machine s q ys)
 anywhere [] [] p q = refl
 anywhere [] (r ∷ rs) p q = refl
 anywhere (y ∷ ys) s p q = same-move p q ys (step s y) (λ s′. anywhere ys s′ (p + 1) (q + 1))

@@ -1,0 +1,5 @@
+pub mod Exact
+pub mod Seq
+pub mod Judged
+pub mod Loop
+pub mod Branch

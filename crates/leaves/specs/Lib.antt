@@ -1,0 +1,10 @@
+pub mod Rows
+pub mod LineEnd
+pub mod Word
+pub mod Version
+pub mod Status
+pub mod EmptyLines
+pub mod BehindCode
+pub mod Value
+pub mod Target
+pub mod Reason

@@ -1,0 +1,47 @@
+-- A line's end is read exactly where CR LF stands, or LF alone where the rules allow it.
+-- Assumes nothing.
+use Prim.Native.Nat.{ℕ, _+_}
+use native.Mathlib.Omega.{arith}
+use mathlib.Core.Path.{_≡_, refl, sym, ap, _∙_}
+use mathlib.Core.List.{List, [], _∷_, _++_}
+use mathlib.Core.Bool.{Bool, true, false, _&&_, cond}
+use lib.Dec.{eqb}
+use lib.ListN.{length}
+use borrow.Author.Tests.{eqb-true}
+use Rattle.reader.specs.Machine.{Move, keep, give, refuse, Run, more, gave, refused, Step, after, run}
+use Rattle.exact.specs.Exact.{Relation, Part, Exact}
+use Rattle.parts.specs.Rules.{Rules}
+use Rattle.parts.specs.LineEnd.{LineEnd, begin, cr, lineEndStep}
+use Rattle.leaves.specs.Rows.{split, both-true}
+
+-- CR LF; or LF alone
+pub data Ends (r : Rules) : List ℕ → Type 0 where
+  crlf : Ends r (13 ∷ 10 ∷ [])
+  lf : r .lf-alone ≡ true → Ends r (10 ∷ [])
+
+abbrev pub EndsAt : Rules → Relation (Unit {0})
+EndsAt r p w a rest = Ends r w
+
+module _ {E : Type 0} (r : Rules) (x : E) where
+  sound-cr : (p : ℕ) (xs : List ℕ) (q : ℕ) → run (lineEndStep r x) cr p xs ≡ gave tt q → (ys : List ℕ) × (xs ≡ 10 ∷ ys) × (q ≡ p + 1)
+  sound-cr p [] q = λ e. let z : _≡_ {A = ℕ} 0 1 = cc in absurd (omega arith)
+  sound-cr p (b ∷ bs) q =
+      split (λ v. after v p (λ s. run (lineEndStep r x) s (p + 1) bs) ≡ gave tt q → (ys : List ℕ) × (b ∷ bs ≡ 10 ∷ ys) × (q ≡ p + 1)) (eqb b 10)
+      (λ t e. let k : p + 1 ≡ q = cc in (bs, ap (λ y. y ∷ bs) (eqb-true b 10 t), sym k))
+      (λ t e. let z : _≡_ {A = ℕ} 0 1 = cc in absurd (omega arith))
+
+  sound-begin : (p : ℕ) (xs : List ℕ) (a : Unit {0}) (q : ℕ) → run (lineEndStep r x) begin p xs ≡ gave a q → Part (EndsAt r) p xs a q
+  sound-begin p [] a q = λ e. let z : _≡_ {A = ℕ} 0 1 = cc in absurd (omega arith)
+  sound-begin p (b ∷ bs) a q =
+      split (λ v. after v p (λ s. run (lineEndStep r x) s (p + 1) bs) ≡ gave a q → Part (EndsAt r) p (b ∷ bs) a q) (eqb b 13)
+      (λ t e. let k = sound-cr (p + 1) bs q e in record { w = 13 ∷ 10 ∷ []; rest = k .0; whole = ap (λ y. y ∷ bs) (eqb-true b 13 t) ∙ ap (λ ys. 13 ∷ ys) (k .1); place = omega (arith, k .2); holds = crlf })
+      (λ _. split (λ v. after v p (λ s. run (lineEndStep r x) s (p + 1) bs) ≡ gave a q → Part (EndsAt r) p (b ∷ bs) a q) (r .lf-alone && eqb b 10)
+      (λ t e. let k = both-true (r .lf-alone) (eqb b 10) t in let l : p + 1 ≡ q = cc in record { w = 10 ∷ []; rest = bs; whole = ap (λ y. y ∷ bs) (eqb-true b 10 (k .1)); place = sym l; holds = lf (k .0) })
+      (λ t e. let z : _≡_ {A = ℕ} 0 1 = cc in absurd (omega arith)))
+
+  complete-end : (p : ℕ) (w rest : List ℕ) (a : Unit {0}) → Ends r w → run (lineEndStep r x) begin p (w ++ rest) ≡ gave a (p + length w)
+  complete-end p w rest a crlf = let l : p + 1 + 1 ≡ p + 2 = omega arith in rw l
+  complete-end p w rest a (lf h) = rw h
+
+  pub exact-line-end : Exact (lineEndStep r x) begin (EndsAt r)
+  exact-line-end = record { sound = sound-begin; complete = complete-end }
