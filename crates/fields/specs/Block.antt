@@ -59,7 +59,7 @@ module _ (n : ℕ) (hs hs′ : List Header) (p : ℕ) (start : Piece → Then Va
   never false false true e = let z : _≡_ {A = ℕ} 0 1 = cc in omega arith
   never false false false e = let z : _≡_ {A = ℕ} 0 1 = cc in omega arith
 
-block-fresh : (r : Rules) (n : ℕ) → Fresh (λ _. fresh) (lapStep r n)
+pub block-fresh : (r : Rules) (n : ℕ) → Fresh (λ _. fresh) (lapStep r n)
 block-fresh r n hs p b hs′ e = never n hs hs′ p _ _ (eqb b 13) (r .lf-alone && eqb b 10) (isToken b) e
 
 -- a line, and the block from behind it

@@ -1,0 +1,42 @@
+-- A header block is read exactly where lines stand whose headers fit the slots, up to the empty one.
+-- Assumes nothing.
+use Prim.Native.Nat.{ℕ, _+_, _≤_}
+use native.Mathlib.Omega.{arith}
+use mathlib.Core.Path.{_≡_, ap}
+use mathlib.Core.List.{List, [], _∷_, _++_}
+use lib.ListN.{length, length-append}
+use Rattle.reader.specs.Loop.{Turn, again, done}
+use Rattle.reader.specs.Branch.{fresh}
+use Rattle.exact.specs.Exact.{Relation, Exact}
+use Rattle.exact.specs.Judged.{Passes, exact-judged}
+use Rattle.exact.specs.Seq.{Both}
+use Rattle.exact.specs.Branch.{Forks, one, other}
+use Rattle.exact.specs.Loop.{Laps, exact-loop}
+use Rattle.parts.specs.Rules.{Rules}
+use Rattle.fields.specs.declared.Header.{Header}
+use Rattle.fields.specs.Line.{Kind, lineStep}
+use Rattle.fields.specs.Block.{taken, lapStep, blockStep, block-fresh}
+use Rattle.leaves.specs.LineEnd.{Ends, crlf, lf}
+use Rattle.agreement.specs.Line.{Lined, exact-line}
+
+-- a line with the headers hs before it and n slots
+abbrev pub Lapped : Rules → ℕ → List Header → Relation (Turn (List Header) (List Header))
+Lapped r n hs = Passes (taken n hs) (Lined r)
+
+abbrev pub Blocked : Rules → ℕ → Relation (List Header)
+Blocked r n = Laps (Lapped r n) []
+
+ends-long : {r : Rules} {w : List ℕ} → Ends r w → 1 ≤ length w
+ends-long crlf = omega arith
+ends-long (lf h) = omega arith
+
+line-long : (r : Rules) (p : ℕ) (w : List ℕ) (k : Kind) (rest : List ℕ) → Lined r p w k rest → 1 ≤ length w
+line-long r p w k rest (one b bs e h g) = ends-long (g .holds)
+line-long r p w k rest (other b bs e h g) =
+    omega (arith, ap length (g .whole), length-append (g .w₁) (g .w₂), ap length (g .left .whole), length-append (g .left .v) (58 ∷ []))
+
+module _ (r : Rules) (n : ℕ) where
+  pub exact-block : Exact (blockStep r n) ([], fresh) (Blocked r n)
+  exact-block =
+      exact-loop (λ _. fresh) (lapStep r n) (block-fresh r n) (λ hs. exact-judged (taken n hs) (λ e. (e, hs)) (lineStep r) (exact-line r))
+      (λ hs p w hs′ rest K. line-long r p w (K .a) rest (K .holds)) []

@@ -1,0 +1,40 @@
+-- Requests and responses are read exactly where a start line stands and a header block behind it.
+-- Assumes nothing.
+use Prim.Native.Nat.{ℕ}
+use mathlib.Core.List.{List, []}
+use Rattle.reader.specs.Machine.{Step}
+use Rattle.reader.specs.Judged.{pass, judged}
+use Rattle.reader.specs.Seq.{first, seq}
+use Rattle.reader.specs.Branch.{fresh}
+use Rattle.exact.specs.Exact.{Relation, Exact}
+use Rattle.exact.specs.Judged.{Passes, exact-judged}
+use Rattle.exact.specs.Seq.{Both, exact-seq}
+use Rattle.parts.specs.declared.Error.{Error}
+use Rattle.parts.specs.Rules.{Rules}
+use Rattle.parts.specs.EmptyLines.{start}
+use Rattle.fields.specs.declared.Header.{Header}
+use Rattle.fields.specs.Block.{blockStep}
+use Rattle.startline.specs.declared.RequestLine.{RequestLine}
+use Rattle.startline.specs.declared.StatusLine.{StatusLine}
+use Rattle.startline.specs.RequestLine as request
+use Rattle.startline.specs.StatusLine as response
+use Rattle.heads.specs.Head.{Known, blockOn, headStep}
+use Rattle.agreement.specs.Block.{Blocked, exact-block}
+use Rattle.agreement.specs.StartLine.{RequestLined, exact-request-line, StatusLined, exact-status-line}
+
+-- what a start line relates, and a block behind it
+abbrev pub Headed : {K : Type 0} → Rules → ℕ → Relation K → Relation (Known K)
+Headed {K} r n G = Both (Passes {F = Error × Known K} pass G) (λ k. Passes {F = Error × Known K} (λ hs. pass (k, hs)) (Blocked r n))
+
+module _ (r : Rules) (n : ℕ) where
+  exact-head : {K S : Type 0} (m : Step S K (Error × K)) (known : S → K) (s : S) {G : Relation K} → Exact m s G → Exact (headStep r n m known s) (first s) (Headed r n G)
+  exact-head m known s M =
+      exact-seq (judged pass (λ x. (x .0, (x .1, []))) m) (λ _. ([], fresh)) (blockOn r n m known s) s
+      (exact-judged pass (λ x. (x .0, (x .1, []))) m M)
+      (λ k. exact-judged (λ hs. pass (k, hs)) (λ x. (x .0, (k, x .1))) (blockStep r n) (exact-block r n))
+
+  pub exact-request : Exact (headStep r n (request.requestLineStep r) request.lineKnown (first start)) (first (first start)) (Headed r n (RequestLined r))
+  exact-request = exact-head (request.requestLineStep r) request.lineKnown (first start) (exact-request-line r)
+
+  pub exact-response : Exact (headStep r n (response.statusLineStep r) response.lineKnown (first start)) (first (first start)) (Headed r n (StatusLined r))
+  exact-response = exact-head (response.statusLineStep r) response.lineKnown (first start) (exact-status-line r)

@@ -1,0 +1,4 @@
+pub mod Line
+pub mod Block
+pub mod StartLine
+pub mod Head

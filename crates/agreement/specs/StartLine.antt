@@ -1,0 +1,124 @@
+-- Request lines and status lines are read exactly where their parts stand in a row.
+-- Assumes nothing.
+use Prim.Native.Nat.{ℕ}
+use mathlib.Core.Path.{_≡_, refl}
+use mathlib.Core.List.{List}
+use mathlib.Core.Bool.{false}
+use Rattle.reader.specs.Machine.{Step}
+use Rattle.reader.specs.Judged.{pass, judged}
+use Rattle.reader.specs.Seq.{first, seq}
+use Rattle.reader.specs.Chain.{part}
+use Rattle.exact.specs.Exact.{Relation, Exact}
+use Rattle.exact.specs.Judged.{Passes, exact-judged}
+use Rattle.exact.specs.Seq.{Both, exact-seq}
+use Rattle.octets.specs.Class.{among, within, isDigit, isToken}
+use Rattle.parts.specs.declared.Error.{Error}
+use Rattle.parts.specs.declared.Error.the-variants.{NewLine, Status, Token, Version}
+use Rattle.parts.specs.declared.Piece.{Piece}
+use Rattle.parts.specs.Rules.{Rules}
+use Rattle.parts.specs.LineEnd.{begin, lineEndStep}
+use Rattle.parts.specs.EmptyLines.{start, emptyLinesStep}
+use Rattle.words.specs.Word.{wordStep}
+use Rattle.words.specs.Word as words
+use Rattle.words.specs.Target.{targetStep}
+use Rattle.words.specs.Target as targets
+use Rattle.status.specs.Version.{name, versionStep}
+use Rattle.status.specs.Space.{spaceStep, behindCodeStep}
+use Rattle.status.specs.Code.{codeStep}
+use Rattle.status.specs.Code as codes
+use Rattle.status.specs.Reason.{reasonStep}
+use Rattle.status.specs.Reason as reasons
+use Rattle.startline.specs.declared.RequestLine.{RequestLine}
+use Rattle.startline.specs.declared.StatusLine.{StatusLine}
+use Rattle.startline.specs.RequestLine as request
+use Rattle.startline.specs.StatusLine as response
+use Rattle.leaves.specs.LineEnd.{EndsAt, exact-line-end}
+use Rattle.leaves.specs.EmptyLines.{EmptiesAt, exact-empties}
+use Rattle.leaves.specs.Word.{Worded, exact-word}
+use Rattle.leaves.specs.Target.{Targeted, exact-target}
+use Rattle.leaves.specs.Version.{DigitAt, exact-version}
+use Rattle.leaves.specs.Status.{Spaced, exact-space, Coded, exact-code}
+use Rattle.leaves.specs.BehindCode.{Behind, exact-behind}
+use Rattle.leaves.specs.Reason.{Reasoned, exact-reason}
+
+no-space : isToken 32 ≡ false
+unfolding isToken isDigit within among
+no-space = refl
+
+-- a part whose answer f adds to what is known
+abbrev pub Adds : {A K : Type 0} → (A → K) → Relation A → Relation K
+Adds {K = K} f G = Passes {F = Error × K} (λ a. pass (f a)) G
+
+exact-part : {S A K : Type 0} (k : K) (f : A → K) (m : Step S A Error) (s : S) {G : Relation A} → Exact m s G → Exact (part k f m) s (Adds f G)
+exact-part k f m s M = exact-judged (λ a. pass (f a)) (λ e. (e, k)) m M
+
+-- method, target, version, line end
+module _ (r : Rules) where
+  abbrev pub EndOn : RequestLine → Relation RequestLine
+  EndOn k = Adds (λ _. k) (EndsAt r)
+
+  abbrev pub VersionOn : RequestLine → Relation RequestLine
+  VersionOn k = Both (Adds (request.withVersion k) (DigitAt name)) EndOn
+
+  abbrev pub TargetOn : RequestLine → Relation RequestLine
+  TargetOn k = Both (Adds (request.withTarget k) Targeted) VersionOn
+
+  abbrev pub MethodOn : RequestLine → Relation RequestLine
+  MethodOn k = Both (Adds (request.withMethod k) (Worded isToken 32)) TargetOn
+
+  abbrev pub RequestLined : Relation RequestLine
+  RequestLined = Both (Adds (λ _. request.unread) (EmptiesAt r)) MethodOn
+
+  pub exact-request-line : Exact (request.requestLineStep r) (first start) RequestLined
+  exact-request-line =
+      exact-seq (part request.unread (λ _. request.unread) (emptyLinesStep r)) (λ _. first words.none) (request.methodOn r) start
+      (exact-part request.unread (λ _. request.unread) (emptyLinesStep r) start (exact-empties r)) (λ k.
+      exact-seq (part k (request.withMethod k) (wordStep isToken 32 Token)) (λ _. first targets.none) (request.targetOn r) words.none
+      (exact-part k (request.withMethod k) (wordStep isToken 32 Token) words.none (exact-word isToken 32 Token no-space)) (λ k.
+      exact-seq (part k (request.withTarget k) targetStep) (λ _. first name) (request.versionOn r) targets.none
+      (exact-part k (request.withTarget k) targetStep targets.none exact-target) (λ k.
+      exact-seq (part k (request.withVersion k) versionStep) (λ _. begin) (request.endStep r) name
+      (exact-part k (request.withVersion k) versionStep name exact-version) (λ k.
+      exact-part k (λ _. k) (lineEndStep r NewLine) begin (exact-line-end r NewLine)))))
+
+-- version, space, code, what is behind it, reason with the line end
+module _ (r : Rules) where
+  abbrev pub ReasonEnds : Relation Piece
+  ReasonEnds = Both Reasoned (λ w. Passes {F = Error} (λ _. pass w) (EndsAt r))
+
+  abbrev pub ReasonOn : StatusLine → Relation StatusLine
+  ReasonOn k = Adds (response.withReason k) ReasonEnds
+
+  abbrev pub BehindOn : StatusLine → Relation StatusLine
+  BehindOn k = Both (Adds (λ _. k) (Behind r)) ReasonOn
+
+  abbrev pub CodeOn : StatusLine → Relation StatusLine
+  CodeOn k = Both (Adds (response.withCode k) Coded) BehindOn
+
+  abbrev pub SpaceOn : StatusLine → Relation StatusLine
+  SpaceOn k = Both (Adds (λ _. k) Spaced) CodeOn
+
+  abbrev pub StatusVersionOn : StatusLine → Relation StatusLine
+  StatusVersionOn k = Both (Adds (response.withVersion k) (DigitAt name)) SpaceOn
+
+  abbrev pub StatusLined : Relation StatusLine
+  StatusLined = Both (Adds (λ _. response.unread) (EmptiesAt r)) StatusVersionOn
+
+  exact-reason-end : Exact (response.reasonEndStep r) (first reasons.none) ReasonEnds
+  exact-reason-end =
+      exact-seq reasonStep (λ _. begin) (λ w. judged (λ _. pass w) (λ e. e) (lineEndStep r Status)) reasons.none exact-reason
+      (λ w. exact-judged (λ _. pass w) (λ e. e) (lineEndStep r Status) (exact-line-end r Status))
+
+  pub exact-status-line : Exact (response.statusLineStep r) (first start) StatusLined
+  exact-status-line =
+      exact-seq (part response.unread (λ _. response.unread) (emptyLinesStep r)) (λ _. first name) (response.versionOn r) start
+      (exact-part response.unread (λ _. response.unread) (emptyLinesStep r) start (exact-empties r)) (λ k.
+      exact-seq (part k (response.withVersion k) versionStep) (λ _. first tt) (response.spaceOn r) name
+      (exact-part k (response.withVersion k) versionStep name exact-version) (λ k.
+      exact-seq (part k (λ _. k) (spaceStep Version)) (λ _. first codes.none) (response.codeOn r) tt
+      (exact-part k (λ _. k) (spaceStep Version) tt (exact-space Version)) (λ k.
+      exact-seq (part k (response.withCode k) codeStep) (λ _. first tt) (response.behindOn r) codes.none
+      (exact-part k (response.withCode k) codeStep codes.none exact-code) (λ k.
+      exact-seq (part k (λ _. k) (behindCodeStep r)) (λ _. first reasons.none) (response.reasonOn r) tt
+      (exact-part k (λ _. k) (behindCodeStep r) tt (exact-behind r)) (λ k.
+      exact-part k (response.withReason k) (response.reasonEndStep r) (first reasons.none) exact-reason-end)))))

@@ -1,0 +1,1 @@
+// The readers of whole heads against the definition: all of it definitions and laws, in specs/.
