@@ -1,0 +1,60 @@
+// The input's bytes. Where they can't be read, standard error says why and what to do.
+use libc::STDERR_FILENO;
+use libc::STDIN_FILENO;
+
+// How many bytes there are; or they were refused with a message.
+pub enum Input {
+    Bytes(usize),
+    Refused,
+}
+
+// A descriptor of the file that an argument names, or -1. Argument 0, the program's own name, stands for standard input.
+pub fn open(file: usize) -> i32 {
+    if file == 0 {
+        return STDIN_FILENO;
+    }
+    let mut name = io::buffer();
+    let n = os::arg(file, &mut name);
+    if os::errno() != 0 {
+        refuse(b"headread: the file's name");
+        return -1;
+    }
+    let descriptor = os::open_read(&name[..n]);
+    if descriptor < 0 {
+        refuse(&name[..n]);
+    }
+    descriptor
+}
+
+// Reads to the end of the input, which must come before that of the buffer.
+pub fn read(descriptor: i32, buffer: &mut [u8]) -> Input {
+    let mut n = 0;
+    while n < buffer.len() {
+        let rest = &mut buffer[n..];
+        let got = libc::read(descriptor, rest);
+        if got < 0 {
+            refuse(b"headread: the input");
+            return Input::Refused;
+        }
+        let more = io::count(got, rest);
+        if more == 0 {
+            return Input::Bytes(n);
+        }
+        n += more;
+    }
+    io::write_all(
+        STDERR_FILENO,
+        b"headread: the input has more than 65536 bytes
+headread: give it the start alone, as in: head -c 65536 FILE | headread request
+",
+    );
+    Input::Refused
+}
+
+fn refuse(what: &[u8]) {
+    os::fail(what);
+    io::write_all(
+        STDERR_FILENO,
+        b"headread: name a file that you may read, or none to read standard input\n",
+    );
+}

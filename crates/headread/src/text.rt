@@ -1,0 +1,85 @@
+// Text on a page. Each function answers the position behind what it put there. A position past the page's end says that there was no
+// room, and each later call answers it again.
+
+// Room for the longest report: an input of 65,536 bytes, each of them as \xHH and twice, and some words.
+pub type Page = [u8; 589824];
+
+pub fn put(page: &mut Page, at: usize, text: &[u8]) -> usize {
+    put_in(page, at, text)
+}
+
+fn put_in(page: &mut [u8], at: usize, text: &[u8]) -> usize {
+    if page.len() < at {
+        return at;
+    }
+    if page.len() - at < text.len() {
+        return page.len() + 1;
+    }
+    at + bytes::copy(text, &mut page[at..])
+}
+
+fn number(page: &mut Page, at: usize, n: usize) -> usize {
+    let mut digits = [0u8; 20];
+    let k = io::decimal(n as u64, &mut digits);
+    put(page, at, &digits[..k])
+}
+
+// A form, with the first number in the place of its first #, and the second in that of each other.
+pub fn fill(page: &mut Page, at: usize, form: &[u8], first: usize, second: usize) -> usize {
+    let mut next = at;
+    let mut n = first;
+    let mut i = 0;
+    while i < form.len() {
+        if form[i] == b'#' {
+            next = number(page, next, n);
+            n = second;
+        } else {
+            next = put(page, next, &[form[i]]);
+        }
+        i += 1;
+    }
+    next
+}
+
+// A byte that is not printable ASCII as its number, and a backslash as two, so that a script can tell the bytes from the text.
+fn escape(page: &mut Page, at: usize, b: u8) -> usize {
+    match b {
+        9 => put(page, at, b"\\t"),
+        10 => put(page, at, b"\\n"),
+        13 => put(page, at, b"\\r"),
+        92 => put(page, at, b"\\\\"),
+        32..=126 => put(page, at, &[b]),
+        _ => hexadecimal(page, at, b),
+    }
+}
+
+fn hexadecimal(page: &mut Page, at: usize, b: u8) -> usize {
+    let mut digits = [0u8; 16];
+    let k = io::hex(b as u64, 2, &mut digits);
+    let next = put(page, at, b"\\x");
+    put(page, next, &digits[..k])
+}
+
+fn escaped(page: &mut Page, at: usize, s: &[u8]) -> usize {
+    let mut next = at;
+    let mut i = 0;
+    while i < s.len() {
+        next = escape(page, next, s[i]);
+        i += 1;
+    }
+    next
+}
+
+// A form, and behind it a text that ends the line.
+pub fn row(
+    page: &mut Page,
+    at: usize,
+    form: &[u8],
+    first: usize,
+    second: usize,
+    s: &[u8],
+) -> usize {
+    let next = fill(page, at, form, first, second);
+    let next = escaped(page, next, s);
+    put(page, next, b"\n")
+}
