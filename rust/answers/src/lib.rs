@@ -11,6 +11,7 @@ mod example;
 mod number;
 mod query;
 pub mod quoted;
+mod random;
 pub mod recorded;
 mod settings;
 
@@ -18,4 +19,5 @@ pub use answer::{Answer, ChunkSize, Fault, Header, Outcome, Piece, Reason, Slots
 pub use call::Call;
 pub use example::Example;
 pub use query::Query;
+pub use random::Random;
 pub use settings::Settings;

@@ -6,14 +6,13 @@ mod cores;
 pub mod heads;
 mod numbers;
 mod ours;
-mod random;
 mod shrink;
 mod tally;
 mod text;
 mod theirs;
 
+pub use answers::Random;
 pub use case::{Case, CALLS};
 pub use comparer::Comparer;
 pub use cores::on_all_cores;
-pub use random::Random;
 pub use tally::Tally;

@@ -1,5 +1,7 @@
 //! The inner parts of Headreader as safe Rust functions.
 
+pub use answers::Random;
+
 extern "C" {
     fn harness_utf8(start: *const u8, length: usize) -> bool;
     fn harness_is(class: u8, byte: u8) -> bool;
@@ -52,30 +54,4 @@ pub fn is(class: Class, byte: u8) -> bool {
 pub fn skip(class: Class, bytes: &[u8], at: usize) -> usize {
     // SAFETY: the function demands nothing of the slice or the position, and reads within the slice.
     unsafe { harness_skip(class as u8, bytes.as_ptr(), bytes.len(), at) }
-}
-
-/// Numbers that look random and are the same in every run (xorshift64*).
-pub struct Random(u64);
-
-impl Random {
-    pub fn new(seed: u64) -> Self {
-        assert!(seed != 0, "the generator stays at 0: choose another seed");
-        Random(seed)
-    }
-
-    pub fn number(&mut self) -> u64 {
-        self.0 ^= self.0 >> 12;
-        self.0 ^= self.0 << 25;
-        self.0 ^= self.0 >> 27;
-        self.0.wrapping_mul(0x2545_F491_4F6C_DD1D)
-    }
-
-    /// A number below `bound`.
-    pub fn below(&mut self, bound: usize) -> usize {
-        ((self.number() >> 32) as usize) % bound
-    }
-
-    pub fn choose<T: Copy>(&mut self, from: &[T]) -> T {
-        from[self.below(from.len())]
-    }
 }
