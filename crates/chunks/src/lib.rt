@@ -58,7 +58,7 @@ fn behind_digits(s: &[u8], at: usize, size: u64) -> ChunkSize
     requires { ⌜ at ≤ length (now s) ⌝ }
     ensures { λ r. ⌜ sizeOf r ≡ from (inBlanks size) (now (s .entry)) at ⌝ }
 {
-    let next = octets::skip_blank(s, at);
+    let next = skips::skip_blank(s, at);
     if s.len() <= next {
         return ChunkSize::Incomplete;
     }

@@ -36,8 +36,8 @@ fn trim(s: &[u8], from: usize, end: usize) -> usize
 pub fn value(s: &[u8], at: usize) -> Found
     ensures { λ r. ⌜ foundOf r ≡ valueAt (now (s .entry)) at ⌝ }
 {
-    let start = octets::skip_blank(s, at);
-    let stop = octets::skip_value(s, start);
+    let start = skips::skip_blank(s, at);
+    let stop = skips::skip_value(s, start);
     if s.len() <= stop {
         return Found::More;
     }

@@ -28,11 +28,11 @@ pub extern "C" fn harness_is(class: u8, b: u8) -> bool {
 #[no_mangle]
 pub extern "C" fn harness_skip(class: u8, s: &[u8], at: usize) -> usize {
     match class {
-        0 => octets::skip_token(s, at),
-        1 => octets::skip_target(s, at),
-        2 => octets::skip_value(s, at),
-        3 => octets::skip_blank(s, at),
-        4 => octets::skip_ascii(s, at),
+        0 => skips::skip_token(s, at),
+        1 => skips::skip_target(s, at),
+        2 => skips::skip_value(s, at),
+        3 => skips::skip_blank(s, at),
+        4 => skips::skip_ascii(s, at),
         _ => at,
     }
 }

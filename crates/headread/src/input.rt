@@ -2,10 +2,11 @@
 use libc::STDERR_FILENO;
 use libc::STDIN_FILENO;
 
-// How many bytes there are; or they were refused with a message.
+// How many bytes there are; or the system refused to read them; or there are more than the buffer holds.
 pub enum Input {
     Bytes(usize),
-    Refused,
+    Unreadable,
+    TooLong,
 }
 
 // A descriptor of the file that an argument names, or -1. Argument 0, the program's own name, stands for standard input.
@@ -33,8 +34,7 @@ pub fn read(descriptor: i32, buffer: &mut [u8]) -> Input {
         let rest = &mut buffer[n..];
         let got = libc::read(descriptor, rest);
         if got < 0 {
-            refuse(b"headread: the input");
-            return Input::Refused;
+            return Input::Unreadable;
         }
         let more = io::count(got, rest);
         if more == 0 {
@@ -42,19 +42,23 @@ pub fn read(descriptor: i32, buffer: &mut [u8]) -> Input {
         }
         n += more;
     }
+    Input::TooLong
+}
+
+// Says what the system has against a file or its name.
+pub fn refuse(what: &[u8]) {
+    os::fail(what);
+    io::write_all(
+        STDERR_FILENO,
+        b"headread: name a file that you may read, or none to read standard input\n",
+    );
+}
+
+pub fn refuse_long() {
     io::write_all(
         STDERR_FILENO,
         b"headread: the input has more than 65536 bytes
 headread: give it the start alone, as in: head -c 65536 FILE | headread request
 ",
-    );
-    Input::Refused
-}
-
-fn refuse(what: &[u8]) {
-    os::fail(what);
-    io::write_all(
-        STDERR_FILENO,
-        b"headread: name a file that you may read, or none to read standard input\n",
     );
 }

@@ -34,7 +34,8 @@ fn read(kind: Kind, raw: bool, file: usize) {
     let found = input::read(descriptor, &mut buffer);
     match found {
         Input::Bytes(n) => show(kind, raw, place::part(&buffer, 0, n)),
-        Input::Refused => {}
+        Input::Unreadable => input::refuse(b"headread: the input"),
+        Input::TooLong => input::refuse_long(),
     }
 }
 

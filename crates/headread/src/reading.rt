@@ -1,5 +1,4 @@
 // What can be read, and what was found, in the same words for each kind.
-use crate::place;
 use chunks::ChunkSize;
 use parts::Error;
 use parts::Passed;
@@ -7,10 +6,10 @@ use startline::KnownNumber;
 use startline::RequestLine;
 use startline::StatusLine;
 
-pub const MOST_HEADERS: usize = 100;
-
 // Four numbers a header: where its name is, the name's length, where its value is, the value's length.
 pub type Slots = [usize; 400];
+
+pub const MOST_HEADERS: usize = 100;
 
 pub enum Kind {
     Request,
@@ -39,12 +38,10 @@ pub enum First {
     Nothing,
 }
 
-// What was found. `stopped` is where the line starts that is wrong or not complete.
 pub struct Reading {
     pub answer: Answer,
     pub first: First,
     pub count: usize,
-    pub stopped: usize,
 }
 
 pub fn read(kind: Kind, s: &[u8], slots: &mut Slots) -> Reading {
@@ -60,12 +57,10 @@ fn request(s: &[u8], slots: &mut Slots) -> Reading {
     let head = heads::request(s, slots);
     let end = head.end;
     let line = head.line;
-    let start = behind_request_line(s);
     Reading {
         answer: ended(end),
         first: First::Request(line),
         count: head.count,
-        stopped: behind_headers(s, start, slots, head.count),
     }
 }
 
@@ -73,12 +68,10 @@ fn response(s: &[u8], slots: &mut Slots) -> Reading {
     let head = heads::response(s, slots);
     let end = head.end;
     let line = head.line;
-    let start = behind_status_line(s);
     Reading {
         answer: ended(end),
         first: First::Status(line),
         count: head.count,
-        stopped: behind_headers(s, start, slots, head.count),
     }
 }
 
@@ -89,29 +82,6 @@ fn headers(s: &[u8], slots: &mut Slots) -> Reading {
         answer: ended(end),
         first: First::Nothing,
         count: block.count,
-        stopped: behind_headers(s, 0, slots, block.count),
-    }
-}
-
-fn chunk(s: &[u8]) -> Reading {
-    let found = chunks::chunk_size(s);
-    match found {
-        ChunkSize::Complete(end, size) => alone(
-            Answer::Complete(end),
-            KnownNumber::Is(size as usize),
-        ),
-        ChunkSize::Incomplete => alone(Answer::Incomplete, KnownNumber::NotYet),
-        ChunkSize::Invalid => alone(Answer::Wrong(Fault::Chunk), KnownNumber::NotYet),
-    }
-}
-
-// A line with no headers behind it.
-fn alone(answer: Answer, size: KnownNumber) -> Reading {
-    Reading {
-        answer,
-        first: First::Size(size),
-        count: 0,
-        stopped: 0,
     }
 }
 
@@ -123,37 +93,50 @@ fn ended(end: Passed) -> Answer {
     }
 }
 
-fn behind_request_line(s: &[u8]) -> usize {
-    let read = startline::request_line(s);
-    let end = read.end;
-    behind_first(s, end)
-}
-
-fn behind_status_line(s: &[u8]) -> usize {
-    let read = startline::status_line(s);
-    let end = read.end;
-    behind_first(s, end)
-}
-
-// The position behind the first line, or its start where it does not end.
-fn behind_first(s: &[u8], end: Passed) -> usize {
-    match end {
-        Passed::At(next) => next,
-        Passed::More => place::first_line(s),
-        Passed::Bad(_) => place::first_line(s),
+fn chunk(s: &[u8]) -> Reading {
+    let found = chunks::chunk_size(s);
+    match found {
+        ChunkSize::Complete(end, size) => Reading {
+            answer: Answer::Complete(end),
+            first: First::Size(KnownNumber::Is(size as usize)),
+            count: 0,
+        },
+        ChunkSize::Incomplete => Reading {
+            answer: Answer::Incomplete,
+            first: First::Size(KnownNumber::NotYet),
+            count: 0,
+        },
+        ChunkSize::Invalid => Reading {
+            answer: Answer::Wrong(Fault::Chunk),
+            first: First::Size(KnownNumber::NotYet),
+            count: 0,
+        },
     }
 }
 
-// The position behind the lines of the headers given, the first of which starts at `at`.
-fn behind_headers(s: &[u8], at: usize, slots: &Slots, count: usize) -> usize {
-    let mut next = at;
-    let mut k = 0;
-    while k < MOST_HEADERS {
-        if count <= k {
-            return next;
+// The position of the byte that decides the answer, or the input's end where none does. An answer stays the same whatever bytes
+// follow, so the byte is found by halves: it is the last of the shortest start of the input that is not incomplete.
+pub fn decided(kind: Kind, s: &[u8]) -> usize {
+    let mut low = 0;
+    let mut high = s.len();
+    while low < high {
+        let middle = low + (high - low) / 2;
+        let next = middle + 1;
+        if is_incomplete(kind, &s[0..next]) {
+            low = next;
+        } else {
+            high = middle;
         }
-        next = place::behind_line(s, slots[k * 4 + 2]);
-        k += 1;
     }
-    next
+    low
+}
+
+fn is_incomplete(kind: Kind, s: &[u8]) -> bool {
+    let mut slots = [0usize; 400];
+    let reading = read(kind, s, &mut slots);
+    let answer = reading.answer;
+    match answer {
+        Answer::Incomplete => true,
+        _ => false,
+    }
 }

@@ -3,9 +3,7 @@ use crate::place;
 use crate::reading;
 use crate::reading::Answer;
 use crate::reading::Fault;
-use crate::reading::First;
 use crate::reading::Kind;
-use crate::reading::Slots;
 use crate::rows;
 use crate::text::Page;
 use crate::text::fill;
@@ -20,47 +18,53 @@ pub fn report(page: &mut Page, kind: Kind, raw: bool, s: &[u8]) -> usize {
     let answer = reading.answer;
     let first = reading.first;
     let next = if raw {
-        for_script(page, answer, s, reading.stopped)
+        for_script(page, kind, answer, s)
     } else {
-        for_person(page, kind, answer, s, reading.stopped)
+        for_person(page, kind, answer, s)
     };
-    found(page, next, raw, s, first, &slots, reading.count)
+    let next = rows::first_line(page, next, raw, s, first);
+    match kind {
+        Kind::Chunk => next,
+        _ => rows::headers(page, next, raw, s, &slots, reading.count),
+    }
 }
 
-// The answer, and where the input is complete or in which line it is not.
-fn for_script(page: &mut Page, answer: Answer, s: &[u8], stopped: usize) -> usize {
+// The answer, and where the input is complete or where it is not.
+fn for_script(page: &mut Page, kind: Kind, answer: Answer, s: &[u8]) -> usize {
     match answer {
         Answer::Complete(end) => fill(page, 0, b"answer\tcomplete\nend\t#\n", end, 0),
         Answer::Incomplete => {
-            let next = put(page, 0, b"answer\tincomplete");
-            line_row(page, next, s, stopped)
+            let next = put(page, 0, b"answer\tincomplete\n");
+            stop_rows(page, next, kind, s)
         }
         Answer::Wrong(fault) => {
             let next = put(page, 0, b"answer\terror\t");
             let next = words::name(page, next, fault);
-            line_row(page, next, s, stopped)
+            let next = put(page, next, b"\n");
+            stop_rows(page, next, kind, s)
         }
     }
 }
 
-fn line_row(page: &mut Page, at: usize, s: &[u8], stopped: usize) -> usize {
-    let number = place::line_number(place::part(s, 0, stopped));
-    let next = fill(page, at, b"\nline-number\t#\n", number, 0);
+fn stop_rows(page: &mut Page, at: usize, kind: Kind, s: &[u8]) -> usize {
+    let stop = reading::decided(kind, s);
+    let line = place::last_line(place::part(s, 0, stop));
+    let next = fill(page, at, b"stopped\t#\nline-number\t#\n", stop, line.number);
     rows::piece(
         page,
         next,
         b"line\t#\t#\t",
         s,
-        stopped,
-        place::line_length(s, stopped),
+        line.start,
+        place::line_length(s, line.start),
     )
 }
 
-fn for_person(page: &mut Page, kind: Kind, answer: Answer, s: &[u8], stopped: usize) -> usize {
+fn for_person(page: &mut Page, kind: Kind, answer: Answer, s: &[u8]) -> usize {
     let next = match answer {
         Answer::Complete(end) => complete(page, kind, end, s.len()),
-        Answer::Incomplete => incomplete(page, kind, s, stopped),
-        Answer::Wrong(fault) => wrong(page, fault, s, stopped),
+        Answer::Incomplete => incomplete(page, kind, s),
+        Answer::Wrong(fault) => wrong(page, kind, fault, s),
     };
     heading(page, next, kind)
 }
@@ -71,9 +75,9 @@ fn complete(page: &mut Page, kind: Kind, end: usize, all: usize) -> usize {
     fill(page, next, b" is the first # of # bytes\n", end, all)
 }
 
-fn incomplete(page: &mut Page, kind: Kind, s: &[u8], stopped: usize) -> usize {
+fn incomplete(page: &mut Page, kind: Kind, s: &[u8]) -> usize {
     let next = put(page, 0, b"incomplete");
-    let next = line(page, next, s, stopped);
+    let next = stop(page, next, kind, s);
     let next = put(page, next, b"  wrong: the input ends before ");
     let next = words::subject(page, next, kind);
     put(
@@ -86,23 +90,24 @@ fn incomplete(page: &mut Page, kind: Kind, s: &[u8], stopped: usize) -> usize {
     )
 }
 
-fn wrong(page: &mut Page, fault: Fault, s: &[u8], stopped: usize) -> usize {
+fn wrong(page: &mut Page, kind: Kind, fault: Fault, s: &[u8]) -> usize {
     let next = put(page, 0, b"error ");
     let next = words::name(page, next, fault);
-    let next = line(page, next, s, stopped);
+    let next = stop(page, next, kind, s);
     words::advice(page, next, fault)
 }
 
-// The line in which the reading stopped.
-fn line(page: &mut Page, at: usize, s: &[u8], stopped: usize) -> usize {
-    let number = place::line_number(place::part(s, 0, stopped));
-    let text = place::part(s, stopped, place::line_length(s, stopped));
+// Where the reading stopped, and the line that it stopped in.
+fn stop(page: &mut Page, at: usize, kind: Kind, s: &[u8]) -> usize {
+    let stop = reading::decided(kind, s);
+    let line = place::last_line(place::part(s, 0, stop));
+    let text = place::part(s, line.start, place::line_length(s, line.start));
     row(
         page,
         at,
-        b" in line #, which starts at offset #: ",
-        number,
-        stopped,
+        b" at offset #, in line #: ",
+        stop,
+        line.number,
         text,
     )
 }
@@ -112,28 +117,5 @@ fn heading(page: &mut Page, at: usize, kind: Kind) -> usize {
     match kind {
         Kind::Chunk => at,
         _ => put(page, at, b"\nfield\toffset\tlength\ttext\n"),
-    }
-}
-
-fn found(
-    page: &mut Page,
-    at: usize,
-    raw: bool,
-    s: &[u8],
-    first: First,
-    slots: &Slots,
-    count: usize,
-) -> usize {
-    match first {
-        First::Request(line) => {
-            let next = rows::request_line(page, at, raw, s, line);
-            rows::headers(page, next, raw, s, slots, count)
-        }
-        First::Status(line) => {
-            let next = rows::status_line(page, at, raw, s, line);
-            rows::headers(page, next, raw, s, slots, count)
-        }
-        First::Nothing => rows::headers(page, at, raw, s, slots, count),
-        First::Size(size) => rows::known_number(page, at, raw, b"size\t#\n", b"size\t#\n", size),
     }
 }

@@ -1,6 +1,7 @@
 // The rows of a report: one a field, with tabs between its parts.
 ghost use Prim.Native.Nat.{_<_};
 use crate::place;
+use crate::reading::First;
 use crate::reading::MOST_HEADERS;
 use crate::reading::Slots;
 use crate::text::Page;
@@ -11,7 +12,17 @@ use startline::KnownPiece;
 use startline::RequestLine;
 use startline::StatusLine;
 
-pub fn request_line(page: &mut Page, at: usize, raw: bool, s: &[u8], line: RequestLine) -> usize {
+// What the first line tells.
+pub fn first_line(page: &mut Page, at: usize, raw: bool, s: &[u8], first: First) -> usize {
+    match first {
+        First::Request(line) => request_line(page, at, raw, s, line),
+        First::Status(line) => status_line(page, at, raw, s, line),
+        First::Size(size) => known_number(page, at, raw, b"size\t#\n", b"size\t#\n", size),
+        First::Nothing => at,
+    }
+}
+
+fn request_line(page: &mut Page, at: usize, raw: bool, s: &[u8], line: RequestLine) -> usize {
     let method = line.method;
     let target = line.target;
     let version = line.version;
@@ -20,7 +31,7 @@ pub fn request_line(page: &mut Page, at: usize, raw: bool, s: &[u8], line: Reque
     known_version(page, next, raw, version)
 }
 
-pub fn status_line(page: &mut Page, at: usize, raw: bool, s: &[u8], line: StatusLine) -> usize {
+fn status_line(page: &mut Page, at: usize, raw: bool, s: &[u8], line: StatusLine) -> usize {
     let version = line.version;
     let code = line.code;
     let reason = line.reason;
@@ -102,7 +113,7 @@ fn known_version(page: &mut Page, at: usize, raw: bool, known: KnownNumber) -> u
     )
 }
 
-pub fn known_number(
+fn known_number(
     page: &mut Page,
     at: usize,
     raw: bool,

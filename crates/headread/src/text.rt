@@ -41,15 +41,26 @@ pub fn fill(page: &mut Page, at: usize, form: &[u8], first: usize, second: usize
     next
 }
 
-// A byte that is not printable ASCII as its number, and a backslash as two, so that a script can tell the bytes from the text.
+// A byte that is not printable ASCII as an escape, and a backslash as two, so that a script can tell the bytes from the text.
 fn escape(page: &mut Page, at: usize, b: u8) -> usize {
+    let letter = letter(b);
+    if letter != 0 {
+        return put(page, at, &[b'\\', letter]);
+    }
+    if (b < 32) | (126 < b) {
+        return hexadecimal(page, at, b);
+    }
+    put(page, at, &[b])
+}
+
+// The letter of a byte's escape, and 0 where it has none.
+fn letter(b: u8) -> u8 {
     match b {
-        9 => put(page, at, b"\\t"),
-        10 => put(page, at, b"\\n"),
-        13 => put(page, at, b"\\r"),
-        92 => put(page, at, b"\\\\"),
-        32..=126 => put(page, at, &[b]),
-        _ => hexadecimal(page, at, b),
+        9 => b't',
+        10 => b'n',
+        13 => b'r',
+        92 => b'\\',
+        _ => 0,
     }
 }
 

@@ -74,7 +74,7 @@ pub fn advice(page: &mut Page, at: usize, fault: Fault) -> usize {
             Error::Token => put(
                 page,
                 at,
-                b"  wrong: the method or the target is empty or has a byte that may not stand there
+                b"  wrong: the method or the target is empty, has a byte that may not stand there, or is not UTF-8
   to do: have the sender write the line as POST /orders HTTP/1.1, then CR LF;
          if the input is a response, call headread response
 ",

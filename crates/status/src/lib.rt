@@ -128,11 +128,11 @@ pub fn code(s: &[u8], at: usize) -> Number
 pub fn reason(s: &[u8], at: usize) -> Found
     ensures { λ r. ⌜ found r ≡ reasonAt (now (s .entry)) at ⌝ }
 {
-    let end = octets::skip_value(s, at);
+    let end = skips::skip_value(s, at);
     if s.len() <= end {
         return Found::More;
     }
-    let plain = octets::skip_ascii(s, at);
+    let plain = skips::skip_ascii(s, at);
     if plain < end {
         return Found::At(
             Piece {

@@ -77,7 +77,7 @@ pub fn is_utf8(s: &[u8]) -> bool
         low: 0x80,
         high: 0xBF,
     };
-    let mut i = octets::skip_ascii(s, 0);
+    let mut i = skips::skip_ascii(s, 0);
     while i < s.len() {
         let m = step(awaited, s[i]);
         match m {

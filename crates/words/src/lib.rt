@@ -18,7 +18,7 @@ pub fn token(s: &[u8], at: usize, end: u8, error: Error) -> Found
     if !octets::is_token(s[at]) {
         return Found::Bad(error);
     }
-    let stop = octets::skip_token(s, at + 1);
+    let stop = skips::skip_token(s, at + 1);
     if s.len() <= stop {
         return Found::More;
     }
@@ -45,7 +45,7 @@ pub fn target(s: &[u8], at: usize) -> Found
     if !octets::is_target(s[at]) {
         return Found::Bad(Error::Token);
     }
-    let gap = octets::skip_target(s, at + 1);
+    let gap = skips::skip_target(s, at + 1);
     if s.len() <= gap {
         return Found::More;
     }

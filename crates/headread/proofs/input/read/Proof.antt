@@ -8,10 +8,10 @@ use Rattle.headread.proofs.input.read.Statement.{statement}
 use Rattle.headread.proofs.input.read.Tie as tie
 
 abbrev Inv-loop : tie.InvT-loop
-Inv-loop descriptor buffer₀ n₀ t7 t8 buffer n = (n ≤ length buffer) × (length buffer ≡ length buffer₀)
+Inv-loop descriptor buffer₀ n₀ buffer n = (n ≤ length buffer) × (length buffer ≡ length buffer₀)
 
 abbrev μ-loop : tie.MeasureT-loop
-μ-loop descriptor buffer₀ n₀ t7 t8 buffer n = length buffer - n
+μ-loop descriptor buffer₀ n₀ buffer n = length buffer - n
 
 pub read-spec : {M : Type 1} → statement M
 read-spec =
@@ -25,8 +25,6 @@ read-spec =
     (λ c. search needs)
     (λ c κs. search needs)
     (λ c. search needs)
-    (λ c κs. search needs)
-    (λ c. search needs)
     (λ c. search needs)
     (λ c κs. search needs)
     (λ c. search needs)
@@ -34,7 +32,5 @@ read-spec =
     (λ c. search needs)
     (λ c. search needs)
     (λ c. search needs)
-    (λ c. search needs)
-    (λ c κs. search needs)
     (λ c. search needs)
     (λ c. search needs))

@@ -1,25 +1,26 @@
--- `headread::place::line_number` is safe and ends: there are no more line ends than bytes.
+-- `headread::place::last_line` is safe and ends: there are no more line ends than bytes.
 -- Assumes nothing.
 use Prim.Native.Nat.{_-_, _+_, _≤_}
 use borrow.Author.Needs.{needs}
 use native.Mathlib.Omega.{arith}
 use mathlib.Core.Logic.{⊎-elim}
 use lib.ListN.{length}
-use Rattle.headread.proofs.place.line_number.Statement.{statement}
-use Rattle.headread.proofs.place.line_number.Tie as tie
+use Rattle.headread.proofs.place.last_line.Statement.{statement}
+use Rattle.headread.proofs.place.last_line.Tie as tie
 
 abbrev Inv-loop : tie.InvT-loop
-Inv-loop before n₀ i₀ n i = (i ≤ length before) × (n ≤ i + 1)
+Inv-loop s number₀ start₀ i₀ number start i = (i ≤ length s) × (number ≤ i + 1)
 
 abbrev μ-loop : tie.MeasureT-loop
-μ-loop before n₀ i₀ n i = length before - i
+μ-loop s number₀ start₀ i₀ number start i = length s - i
 
-pub line-number-spec : {M : Type 1} → statement M
-line-number-spec =
+pub last-line-spec : {M : Type 1} → statement M
+last-line-spec =
     tie.close
     (tie.spec
     Inv-loop
     μ-loop
+    (λ c. search needs)
     (λ c. search needs)
     (λ c. search needs)
     (λ c. search needs)

@@ -1,21 +1,21 @@
--- `octets::skip_blank` meets its contract: every byte that the loop has passed is of the class, and it stops at the first that is not.
+-- `skips::skip_target` meets its contract: every byte that the loop has passed is of the class, and it stops at the first that is not.
 -- Assumes nothing.
 use Prim.Native.Nat.{_-_}
 use borrow.Author.Needs.{needs}
 use lib.ListN.{length}
 use Rattle.reader.specs.Skip.{Passed, skips}
-use Rattle.octets.specs.Class.{isBlank}
-use Rattle.octets.proofs.skip_blank.Statement.{statement}
-use Rattle.octets.proofs.skip_blank.Tie as tie
+use Rattle.octets.specs.Class.{isTarget}
+use Rattle.skips.proofs.skip_target.Statement.{statement}
+use Rattle.skips.proofs.skip_target.Tie as tie
 
 abbrev Inv-loop : tie.InvT-loop
-Inv-loop s at i₀ i = Passed isBlank s at i
+Inv-loop s at i₀ i = Passed isTarget s at i
 
 abbrev μ-loop : tie.MeasureT-loop
 μ-loop s at i₀ i = length s - i
 
-pub skip-blank-spec : {M : Type 1} → statement M
-skip-blank-spec =
+pub skip-target-spec : {M : Type 1} → statement M
+skip-target-spec =
     tie.close
     (tie.spec
     Inv-loop

@@ -1,21 +1,21 @@
--- `octets::skip_ascii` meets its contract: every byte that the loop has passed is of the class, and it stops at the first that is not.
+-- `skips::skip_blank` meets its contract: every byte that the loop has passed is of the class, and it stops at the first that is not.
 -- Assumes nothing.
 use Prim.Native.Nat.{_-_}
 use borrow.Author.Needs.{needs}
 use lib.ListN.{length}
 use Rattle.reader.specs.Skip.{Passed, skips}
-use Rattle.octets.specs.Class.{isAscii}
-use Rattle.octets.proofs.skip_ascii.Statement.{statement}
-use Rattle.octets.proofs.skip_ascii.Tie as tie
+use Rattle.octets.specs.Class.{isBlank}
+use Rattle.skips.proofs.skip_blank.Statement.{statement}
+use Rattle.skips.proofs.skip_blank.Tie as tie
 
 abbrev Inv-loop : tie.InvT-loop
-Inv-loop s at i₀ i = Passed isAscii s at i
+Inv-loop s at i₀ i = Passed isBlank s at i
 
 abbrev μ-loop : tie.MeasureT-loop
 μ-loop s at i₀ i = length s - i
 
-pub skip-ascii-spec : {M : Type 1} → statement M
-skip-ascii-spec =
+pub skip-blank-spec : {M : Type 1} → statement M
+skip-blank-spec =
     tie.close
     (tie.spec
     Inv-loop

@@ -1,0 +1,69 @@
+// The end of a row of bytes of a class.
+ghost use Rattle.reader.specs.Skip.{Skipped};
+ghost use Rattle.octets.specs.Class.{isAscii, isBlank, isTarget, isToken, isValue};
+
+// Each skip answers where the row of bytes of its class that starts at `at` ends, and `at` itself where that is past the end.
+pub fn skip_token(s: &[u8], at: usize) -> usize
+    ensures { λ r. ⌜ Skipped isToken (now (s .entry)) at r ⌝ }
+{
+    let mut i = at;
+    while i < s.len() {
+        if !octets::is_token(s[i]) {
+            return i;
+        }
+        i += 1;
+    }
+    i
+}
+
+pub fn skip_target(s: &[u8], at: usize) -> usize
+    ensures { λ r. ⌜ Skipped isTarget (now (s .entry)) at r ⌝ }
+{
+    let mut i = at;
+    while i < s.len() {
+        if !octets::is_target(s[i]) {
+            return i;
+        }
+        i += 1;
+    }
+    i
+}
+
+pub fn skip_value(s: &[u8], at: usize) -> usize
+    ensures { λ r. ⌜ Skipped isValue (now (s .entry)) at r ⌝ }
+{
+    let mut i = at;
+    while i < s.len() {
+        if !octets::is_value(s[i]) {
+            return i;
+        }
+        i += 1;
+    }
+    i
+}
+
+pub fn skip_blank(s: &[u8], at: usize) -> usize
+    ensures { λ r. ⌜ Skipped isBlank (now (s .entry)) at r ⌝ }
+{
+    let mut i = at;
+    while i < s.len() {
+        if !octets::is_blank(s[i]) {
+            return i;
+        }
+        i += 1;
+    }
+    i
+}
+
+pub fn skip_ascii(s: &[u8], at: usize) -> usize
+    ensures { λ r. ⌜ Skipped isAscii (now (s .entry)) at r ⌝ }
+{
+    let mut i = at;
+    while i < s.len() {
+        if !octets::is_ascii(s[i]) {
+            return i;
+        }
+        i += 1;
+    }
+    i
+}
