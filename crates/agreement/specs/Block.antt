@@ -12,7 +12,7 @@ use Rattle.exact.specs.Judged.{Passes, exact-judged}
 use Rattle.exact.specs.Seq.{Both}
 use Rattle.exact.specs.Branch.{Forks, one, other}
 use Rattle.exact.specs.Loop.{Laps, exact-loop}
-use Rattle.parts.specs.Rules.{Rules}
+use Rattle.rules.specs.Rules.{Rules}
 use Rattle.fields.specs.declared.Header.{Header}
 use Rattle.fields.specs.Line.{Kind, lineStep}
 use Rattle.fields.specs.Block.{taken, lapStep, blockStep, block-fresh}

@@ -10,7 +10,7 @@ use Rattle.exact.specs.Exact.{Relation, Exact}
 use Rattle.exact.specs.Judged.{Passes, exact-judged}
 use Rattle.exact.specs.Seq.{Both, exact-seq}
 use Rattle.parts.specs.declared.Error.{Error}
-use Rattle.parts.specs.Rules.{Rules}
+use Rattle.rules.specs.Rules.{Rules}
 use Rattle.parts.specs.EmptyLines.{start}
 use Rattle.fields.specs.declared.Header.{Header}
 use Rattle.fields.specs.Block.{blockStep}

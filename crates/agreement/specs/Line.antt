@@ -18,7 +18,7 @@ use Rattle.octets.specs.Class.{among, within, isDigit, isToken}
 use Rattle.parts.specs.declared.Error.{Error}
 use Rattle.parts.specs.declared.Error.the-variants.{HeaderName, HeaderValue, NewLine}
 use Rattle.parts.specs.declared.Piece.{Piece}
-use Rattle.parts.specs.Rules.{Rules}
+use Rattle.rules.specs.Rules.{Rules}
 use Rattle.parts.specs.LineEnd.{begin, lineEndStep}
 use Rattle.words.specs.Word.{none, wordStep}
 use Rattle.fields.specs.Value.{blanks, valueStep}

@@ -15,7 +15,7 @@ use Rattle.octets.specs.Class.{among, within, isDigit, isToken}
 use Rattle.parts.specs.declared.Error.{Error}
 use Rattle.parts.specs.declared.Error.the-variants.{NewLine, Status, Token, Version}
 use Rattle.parts.specs.declared.Piece.{Piece}
-use Rattle.parts.specs.Rules.{Rules}
+use Rattle.rules.specs.Rules.{Rules}
 use Rattle.parts.specs.LineEnd.{begin, lineEndStep}
 use Rattle.parts.specs.EmptyLines.{start, emptyLinesStep}
 use Rattle.words.specs.Word.{wordStep}

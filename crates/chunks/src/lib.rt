@@ -3,7 +3,7 @@ ghost use mathlib.Core.Path.{_≡_};
 ghost use Prim.Native.Nat.{_≤_, _<_};
 ghost use lib.ListN.{length};
 ghost use Rattle.reader.specs.Skip.{Skipped};
-ghost use Rattle.parts.specs.Rules.{default};
+ghost use Rattle.rules.specs.Rules.{default};
 ghost use Rattle.chunks.specs.Chunk.{worth, isExtension, chunk, sizeOf, from, cr, extension as inExtension, blanks as inBlanks};
 
 // The position behind the line and the size; or more is wanted; or a byte is wrong.

@@ -21,7 +21,7 @@ use Rattle.parts.specs.declared.Error.the-variants.{HeaderName, NewLine, TooMan
 use Rattle.parts.specs.declared.Piece.{Piece}
 use Rattle.parts.specs.declared.Passed.{Passed}
 use Rattle.parts.specs.declared.Passed.the-variants as passes
-use Rattle.parts.specs.Rules.{Rules, default}
+use Rattle.rules.specs.Rules.{Rules, default}
 use Rattle.parts.specs.LineEnd.{LineEnd, begin, cr, lineEndStep}
 use Rattle.words.specs.Word.{Word, none, some}
 use Rattle.fields.specs.declared.Header.{Header}

@@ -16,7 +16,7 @@ use Rattle.octets.specs.Class.{isToken}
 use Rattle.parts.specs.declared.Error.{Error}
 use Rattle.parts.specs.declared.Error.the-variants.{HeaderName, HeaderValue, NewLine}
 use Rattle.parts.specs.declared.Piece.{Piece}
-use Rattle.parts.specs.Rules.{Rules, default}
+use Rattle.rules.specs.Rules.{Rules, default}
 use Rattle.parts.specs.LineEnd.{LineEnd, begin, lineEndStep, lineEnd}
 use Rattle.words.specs.Word.{Word, none, wordStep, word}
 use Rattle.fields.specs.declared.Header.{Header}

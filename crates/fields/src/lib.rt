@@ -5,7 +5,7 @@ ghost use Prim.Native.Nat.{_+_, _/_, _≤_};
 ghost use lib.ListN.{length, take, drop};
 ghost use Rattle.reader.specs.Chain.{ended};
 ghost use Rattle.parts.specs.declared.Error.the-variants.{NewLine};
-ghost use Rattle.parts.specs.Rules.{default};
+ghost use Rattle.rules.specs.Rules.{default};
 ghost use Rattle.parts.specs.LineEnd.{lineEnd};
 ghost use Rattle.parts.specs.Answers.{found as foundOf};
 ghost use Rattle.fields.specs.Trim.{Trimmed};

@@ -1,19 +1,14 @@
 // Headread, the program for people: reads a head or a chunk size line and prints what it found.
 mod arguments;
 mod input;
-mod place;
-mod reading;
-mod report;
-mod rows;
-mod text;
-mod words;
 
 use arguments::Call;
 use input::Input;
 use libc::STDERR_FILENO;
 use libc::STDOUT_FILENO;
-use reading::Kind;
-use text::Page;
+use report::place::part;
+use report::reading::Kind;
+use report::text::Page;
 
 fn main() {
     let call = arguments::asked();
@@ -33,7 +28,7 @@ fn read(kind: Kind, raw: bool, file: usize) {
     let mut buffer = [0u8; 65537];
     let found = input::read(descriptor, &mut buffer);
     match found {
-        Input::Bytes(n) => show(kind, raw, place::part(&buffer, 0, n)),
+        Input::Bytes(n) => show(kind, raw, part(&buffer, 0, n)),
         Input::Unreadable => input::refuse(b"headread: the input"),
         Input::TooLong => input::refuse_long(),
     }

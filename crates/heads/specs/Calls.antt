@@ -5,7 +5,7 @@ use mathlib.Core.Path.{_≡_}
 use mathlib.Core.List.{List, []}
 use Rattle.reader.specs.Seq.{first}
 use Rattle.parts.specs.declared.Passed.{Passed}
-use Rattle.parts.specs.Rules.{Rules, default}
+use Rattle.rules.specs.Rules.{Rules, default}
 use Rattle.parts.specs.EmptyLines.{start}
 use Rattle.startline.specs.declared.RequestLine.{RequestLine}
 use Rattle.startline.specs.declared.StatusLine.{StatusLine}

@@ -2,7 +2,7 @@
 ghost use mathlib.Core.List.{[]};
 ghost use Prim.Native.Nat.{_/_};
 ghost use lib.ListN.{length};
-ghost use Rattle.parts.specs.Rules.{default};
+ghost use Rattle.rules.specs.Rules.{default};
 ghost use Rattle.fields.specs.Block.{block, Told as BlockTold};
 ghost use Rattle.heads.specs.Head.{Told};
 ghost use Rattle.heads.specs.Calls.{request as requestOf, response as responseOf};

@@ -11,7 +11,7 @@ use borrow.Author.Tests.{eqb-true}
 use Rattle.reader.specs.Machine.{Move, Run, gave, Step, after, run}
 use Rattle.exact.specs.Exact.{Relation, Part, Exact}
 use Rattle.parts.specs.declared.Error.{Error}
-use Rattle.parts.specs.Rules.{Rules}
+use Rattle.rules.specs.Rules.{Rules}
 use Rattle.status.specs.Space.{behindCodeStep}
 use Rattle.leaves.specs.Rows.{split, both-true}
 

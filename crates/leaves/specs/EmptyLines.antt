@@ -11,7 +11,7 @@ use borrow.Author.Tests.{eqb-true}
 use Rattle.reader.specs.Machine.{Move, keep, before, Run, gave, Step, after, run}
 use Rattle.exact.specs.Exact.{Relation, Part, Exact}
 use Rattle.parts.specs.declared.Error.{Error}
-use Rattle.parts.specs.Rules.{Rules}
+use Rattle.rules.specs.Rules.{Rules}
 use Rattle.parts.specs.EmptyLines.{EmptyLines, start, cr, emptyLinesStep}
 use Rattle.leaves.specs.Rows.{split, both-true}
 use Rattle.leaves.specs.LineEnd.{Ends, crlf, lf}

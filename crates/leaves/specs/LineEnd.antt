@@ -10,7 +10,7 @@ use lib.ListN.{length}
 use borrow.Author.Tests.{eqb-true}
 use Rattle.reader.specs.Machine.{Move, keep, give, refuse, Run, more, gave, refused, Step, after, run}
 use Rattle.exact.specs.Exact.{Relation, Part, Exact}
-use Rattle.parts.specs.Rules.{Rules}
+use Rattle.rules.specs.Rules.{Rules}
 use Rattle.parts.specs.LineEnd.{LineEnd, begin, cr, lineEndStep}
 use Rattle.leaves.specs.Rows.{split, both-true}
 

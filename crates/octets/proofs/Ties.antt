@@ -7,7 +7,7 @@ use mathlib.Core.List.{List, [], _∷_}
 use mathlib.Core.Bool.{Bool, true, false, _&&_, _||_, false≢true}
 use lib.Dec.{leb, eqb}
 use borrow.Author.Tests.{leb-true, le-leb, lt-leb, eqb-true}
-use Rattle.octets.specs.Rules.{Range, ALPHA, DIGIT, HEXDIG, field-vchar, tchar, blank, text}
+use Rattle.octets.specs.Grammar.{Range, ALPHA, DIGIT, HEXDIG, field-vchar, tchar, blank, text}
 use Rattle.octets.specs.Class.{among, within, marks, isBlank, isDigit, isHexDigit, isTarget, isToken, isValue}
 
 -- what each of two tests shows, either of them shows; and the other way round

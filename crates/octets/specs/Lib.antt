@@ -1,2 +1,2 @@
-pub mod Rules
+pub mod Grammar
 pub mod Class

@@ -13,7 +13,7 @@ use Rattle.reader.specs.Answer.{Answer, got, short, bad}
 use Rattle.reader.specs.Chain.{reads}
 use Rattle.parts.specs.declared.Error.{Error}
 use Rattle.parts.specs.declared.Error.the-variants.{NewLine}
-use Rattle.parts.specs.Rules.{Rules, default}
+use Rattle.rules.specs.Rules.{Rules, default}
 
 -- at the start of a line, or behind the CR of an empty one
 pub data EmptyLines : Type 0 where

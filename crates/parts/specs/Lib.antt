@@ -1,4 +1,3 @@
-pub mod Rules
 pub mod Answers
 pub mod Ways
 pub mod LineEnd

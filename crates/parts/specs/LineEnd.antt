@@ -11,7 +11,7 @@ use Rattle.reader.specs.Machine.{keep, give, refuse, Step}
 use Rattle.reader.specs.Laws.{run-in, run-out}
 use Rattle.reader.specs.Answer.{Answer, got, short, bad}
 use Rattle.reader.specs.Chain.{reads}
-use Rattle.parts.specs.Rules.{Rules, default}
+use Rattle.rules.specs.Rules.{Rules, default}
 
 -- at the end, or behind its CR
 pub data LineEnd : Type 0 where

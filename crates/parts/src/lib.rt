@@ -1,6 +1,6 @@
 // What a head is made of: what can be wrong, pieces and answers, line ends and empty lines.
 ghost use mathlib.Core.Path.{_≡_};
-ghost use Rattle.parts.specs.Rules.{default};
+ghost use Rattle.rules.specs.Rules.{default};
 ghost use Rattle.parts.specs.Answers.{passed};
 ghost use Rattle.parts.specs.LineEnd.{lineEnd};
 ghost use Rattle.parts.specs.EmptyLines.{emptyLines};

@@ -2,7 +2,7 @@
 ghost use mathlib.Core.Path.{_≡_};
 ghost use Rattle.reader.specs.Chain.{ended};
 ghost use Rattle.parts.specs.declared.Error.the-variants.{Status};
-ghost use Rattle.parts.specs.Rules.{default};
+ghost use Rattle.rules.specs.Rules.{default};
 ghost use Rattle.parts.specs.Answers.{found as foundOf};
 ghost use Rattle.parts.specs.LineEnd.{lineEnd};
 ghost use Rattle.startline.specs.Answers.{tell};

@@ -13,7 +13,7 @@ use Rattle.reader.specs.Answer.{Answer, got, short, bad}
 use Rattle.reader.specs.Chain.{reads}
 use Rattle.parts.specs.declared.Error.{Error}
 use Rattle.parts.specs.declared.Error.the-variants.{Status}
-use Rattle.parts.specs.Rules.{Rules, default}
+use Rattle.rules.specs.Rules.{Rules, default}
 
 -- a machine of one byte has one state
 abbrev pub spaceStep : {E : Type 0} → E → Step (Unit {0}) (Unit {0}) E

@@ -1,7 +1,7 @@
 // The version of a first line, and the parts of a status line behind it.
 ghost use mathlib.Core.Path.{_≡_};
 ghost use Prim.Native.Nat.{_+_, _*_, _<_, _≤_};
-ghost use Rattle.parts.specs.Rules.{default};
+ghost use Rattle.rules.specs.Rules.{default};
 ghost use Rattle.parts.specs.Answers.{found, number, passed};
 ghost use Rattle.status.specs.Version.{version as versionAt};
 ghost use Rattle.status.specs.Space.{space as spaceAt, behindCode};

@@ -9,7 +9,7 @@ use mathlib.Core.Bool.{Bool, true, false, cond, false≢true}
 use lib.Dec.{eqb}
 use borrow.Author.Tests.{eqb-true}
 use Rattle.reader.specs.Machine.{Move, keep, refuse, Run, after, run}
-use Rattle.octets.specs.Rules.{Range}
+use Rattle.octets.specs.Grammar.{Range}
 use Rattle.octets.specs.Class.{within}
 use Rattle.octets.proofs.Ties.{in-range, range-in}
 use Rattle.utf8.specs.Grammar.{UTF8-1, UTF8-2, UTF8-3, UTF8-4, UTF8-char, UTF8-octets}

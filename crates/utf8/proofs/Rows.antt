@@ -8,7 +8,7 @@ use mathlib.Core.Bool.{true, false}
 use lib.Dec.{eqb}
 use borrow.Author.Tests.{eq-eqb, ne-eqb}
 use Rattle.reader.specs.Machine.{keep, refuse}
-use Rattle.octets.specs.Rules.{Range}
+use Rattle.octets.specs.Grammar.{Range}
 use Rattle.octets.specs.Class.{within}
 use Rattle.octets.proofs.Ties.{in-range, below-range, above-range, range-in}
 use Rattle.utf8.specs.Reader.{tail, lead}

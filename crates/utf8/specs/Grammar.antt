@@ -2,7 +2,7 @@
 -- Assumes nothing.
 use Prim.Native.Nat.{ℕ}
 use mathlib.Core.List.{List, [], _∷_, _++_}
-use Rattle.octets.specs.Rules.{Range}
+use Rattle.octets.specs.Grammar.{Range}
 
 -- UTF8-tail: a byte that goes on with a character
 abbrev pub UTF8-tail : ℕ → Type 0

@@ -3,8 +3,8 @@
 use Prim.Native.Nat.{_-_}
 use borrow.Author.Needs.{needs}
 use lib.ListN.{length}
-use Rattle.headread.proofs.text.fill.Statement.{statement}
-use Rattle.headread.proofs.text.fill.Tie as tie
+use Rattle.report.proofs.text.fill.Statement.{statement}
+use Rattle.report.proofs.text.fill.Tie as tie
 
 abbrev Inv-loop : tie.InvT-loop
 Inv-loop page₀ at form first second next₀ n₀ i₀ page next n i = Unit {0}

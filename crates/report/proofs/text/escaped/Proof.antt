@@ -3,8 +3,8 @@
 use Prim.Native.Nat.{_-_}
 use borrow.Author.Needs.{needs}
 use lib.ListN.{length}
-use Rattle.headread.proofs.text.escaped.Statement.{statement}
-use Rattle.headread.proofs.text.escaped.Tie as tie
+use Rattle.report.proofs.text.escaped.Statement.{statement}
+use Rattle.report.proofs.text.escaped.Tie as tie
 
 abbrev Inv-loop : tie.InvT-loop
 Inv-loop page₀ at s next₀ i₀ page next i = Unit {0}

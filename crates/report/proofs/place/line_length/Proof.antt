@@ -3,8 +3,8 @@
 use Prim.Native.Nat.{_-_, _≤_}
 use borrow.Author.Needs.{needs}
 use lib.ListN.{length}
-use Rattle.headread.proofs.place.line_length.Statement.{statement}
-use Rattle.headread.proofs.place.line_length.Tie as tie
+use Rattle.report.proofs.place.line_length.Statement.{statement}
+use Rattle.report.proofs.place.line_length.Tie as tie
 
 abbrev Inv-loop : tie.InvT-loop
 Inv-loop s start i₀ i = start ≤ i

@@ -1,15 +1,17 @@
 // The report on an input: an answer, told to a person or to a script, and the rows of what was found.
-use crate::place;
-use crate::reading;
+pub mod place;
+pub mod reading;
+mod rows;
+pub mod text;
+mod words;
+
 use crate::reading::Answer;
 use crate::reading::Fault;
 use crate::reading::Kind;
-use crate::rows;
 use crate::text::Page;
 use crate::text::fill;
 use crate::text::put;
 use crate::text::row;
-use crate::words;
 
 // Answers how long the report is, or a number above the page's length where it has no room.
 pub fn report(page: &mut Page, kind: Kind, raw: bool, s: &[u8]) -> usize {

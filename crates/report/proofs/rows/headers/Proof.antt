@@ -2,8 +2,8 @@
 -- Assumes nothing.
 use Prim.Native.Nat.{_-_}
 use borrow.Author.Needs.{needs}
-use Rattle.headread.proofs.rows.headers.Statement.{statement}
-use Rattle.headread.proofs.rows.headers.Tie as tie
+use Rattle.report.proofs.rows.headers.Statement.{statement}
+use Rattle.report.proofs.rows.headers.Tie as tie
 
 abbrev Inv-loop : tie.InvT-loop
 Inv-loop page₀ at raw s slots count next₀ k₀ page next k = Unit {0}

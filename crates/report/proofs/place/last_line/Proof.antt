@@ -5,8 +5,8 @@ use borrow.Author.Needs.{needs}
 use native.Mathlib.Omega.{arith}
 use mathlib.Core.Logic.{⊎-elim}
 use lib.ListN.{length}
-use Rattle.headread.proofs.place.last_line.Statement.{statement}
-use Rattle.headread.proofs.place.last_line.Tie as tie
+use Rattle.report.proofs.place.last_line.Statement.{statement}
+use Rattle.report.proofs.place.last_line.Tie as tie
 
 abbrev Inv-loop : tie.InvT-loop
 Inv-loop s number₀ start₀ i₀ number start i = (i ≤ length s) × (number ≤ i + 1)

@@ -3,8 +3,8 @@
 use Prim.Native.Nat.{_-_, _≤_}
 use borrow.Author.Needs.{needs}
 use lib.ListN.{length}
-use Rattle.headread.proofs.reading.decided.Statement.{statement}
-use Rattle.headread.proofs.reading.decided.Tie as tie
+use Rattle.report.proofs.reading.decided.Statement.{statement}
+use Rattle.report.proofs.reading.decided.Tie as tie
 
 abbrev Inv-loop : tie.InvT-loop
 Inv-loop kind s low₀ high₀ low high = high ≤ length s

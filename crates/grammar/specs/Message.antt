@@ -1,0 +1,108 @@
+-- The head of a message: RFC 9112, sections 2 to 5, over the rules of a reading.
+-- Assumes nothing.
+use Prim.Native.Nat.{ℕ, _+_, _-_, _*_}
+use mathlib.Core.Path.{_≡_}
+use mathlib.Core.List.{List, [], _∷_, _++_}
+use mathlib.Core.Bool.{true, false}
+use Rattle.octets.specs.Grammar.{Range, DIGIT, VCHAR, obs-text, field-vchar, blank, text}
+use Rattle.utf8.specs.Grammar.{UTF8-octets}
+use Rattle.rules.specs.Rules.{Rules}
+use Rattle.grammar.specs.Rows.{Many, Some}
+use Rattle.grammar.specs.Fields.{token, OWS, field-name, field-value, Field}
+
+-- single bytes between the parts
+abbrev pub space : List ℕ
+space = 0x20 ∷ []
+
+abbrev pub colon : List ℕ
+colon = 0x3A ∷ []
+
+-- 2.1 and 2.2: a line ends in CR LF
+pub data line-end (r : Rules) : List ℕ → Type 0 where
+  crlf : line-end r (0x0D ∷ 0x0A ∷ [])
+  lf : r .lf-alone ≡ true → line-end r (0x0A ∷ [])
+
+-- 2.2: lines with nothing in them, before a head
+pub data empty-lines (r : Rules) : List ℕ → Type 0 where
+  none : empty-lines r []
+  more : {e w : List ℕ} → r .empty-lines ≡ true → line-end r e → empty-lines r w → empty-lines r (e ++ w)
+
+pub record Version : Type 0 where
+  pub major : ℕ
+  pub minor : ℕ
+
+-- 2.3: HTTP-name = HTTP, in capitals
+abbrev pub HTTP-name : List ℕ
+HTTP-name = 0x48 ∷ 0x54 ∷ 0x54 ∷ 0x50 ∷ []
+
+-- 2.3: HTTP-name "/" DIGIT "." DIGIT
+pub data HTTP-version (r : Rules) : List ℕ → Version → Type 0 where
+  one-zero : HTTP-version r (HTTP-name ++ (0x2F ∷ 0x31 ∷ 0x2E ∷ 0x30 ∷ [])) (record { major = 1; minor = 0 })
+  one-one : HTTP-version r (HTTP-name ++ (0x2F ∷ 0x31 ∷ 0x2E ∷ 0x31 ∷ [])) (record { major = 1; minor = 1 })
+  other : {a b : ℕ} → r .known-versions ≡ false → DIGIT a → DIGIT b → HTTP-version r (HTTP-name ++ (0x2F ∷ a ∷ 0x2E ∷ b ∷ [])) (record { major = a - 0x30; minor = b - 0x30 })
+
+-- 3.1: method = token
+abbrev pub method : List ℕ → Type 0
+method = token
+
+-- 3.2: one of four forms, which all are rows of visible characters
+pub data request-target (r : Rules) : List ℕ → Type 0 where
+  visible : {w : List ℕ} → Some VCHAR w → request-target r w
+  any : {w : List ℕ} → r .any-target ≡ true → Some field-vchar w → UTF8-octets w → request-target r w
+
+pub record RequestLine : Type 0 where
+  pub method : List ℕ
+  pub target : List ℕ
+  pub version : Version
+
+-- 3: request-line = method SP request-target SP HTTP-version
+pub data request-line (r : Rules) : List ℕ → RequestLine → Type 0 where
+  line : {m t v : List ℕ} {n : Version} → method m → request-target r t → HTTP-version r v n → request-line r (m ++ space ++ t ++ space ++ v) (record { method = m; target = t; version = n })
+
+-- 4: status-code = 3DIGIT, of which the first is the class, 1 to 5 (RFC 9110, 15)
+pub data status-code (r : Rules) : List ℕ → ℕ → Type 0 where
+  class : {a b c : ℕ} → Range 0x31 0x35 a → DIGIT b → DIGIT c → status-code r (a ∷ b ∷ c ∷ []) ((a - 0x30) * 100 + (b - 0x30) * 10 + (c - 0x30))
+  any : {a b c : ℕ} → r .any-code ≡ true → DIGIT a → DIGIT b → DIGIT c → status-code r (a ∷ b ∷ c ∷ []) ((a - 0x30) * 100 + (b - 0x30) * 10 + (c - 0x30))
+
+-- 4: HTAB / SP / VCHAR, which is text but for obs-text
+pub data plain-text (b : ℕ) : Type 0 where
+  white : blank b → plain-text b
+  visible : VCHAR b → plain-text b
+
+-- 4: reason-phrase = 1*( HTAB / SP / VCHAR / obs-text ), and the reason that is given
+pub data reason-phrase (r : Rules) : List ℕ → List ℕ → Type 0 where
+  plain : {w : List ℕ} → Some plain-text w → reason-phrase r w w
+  whole : {w : List ℕ} → r .obs-reason ≡ false → Some text w → reason-phrase r w w
+  emptied : {u v : List ℕ} {c : ℕ} → r .obs-reason ≡ true → Many text u → obs-text c → Many text v → reason-phrase r (u ++ (c ∷ v)) []
+
+pub record StatusLine : Type 0 where
+  pub version : Version
+  pub code : ℕ
+  pub reason : List ℕ
+
+-- 4: status-line = HTTP-version SP status-code SP [ reason-phrase ]
+pub data status-line (r : Rules) : List ℕ → StatusLine → Type 0 where
+  reason : {v c w g : List ℕ} {n : Version} {k : ℕ} → HTTP-version r v n → status-code r c k → reason-phrase r w g → status-line r (v ++ space ++ c ++ space ++ w) (record { version = n; code = k; reason = g })
+  no-reason : {v c : List ℕ} {n : Version} {k : ℕ} → HTTP-version r v n → status-code r c k → status-line r (v ++ space ++ c ++ space) (record { version = n; code = k; reason = [] })
+  code-ends : {v c : List ℕ} {n : Version} {k : ℕ} → r .code-ends-line ≡ true → HTTP-version r v n → status-code r c k → status-line r (v ++ space ++ c) (record { version = n; code = k; reason = [] })
+
+-- 5: field-line = field-name ":" OWS field-value OWS
+pub data field-line : List ℕ → Field → Type 0 where
+  line : {n o v t : List ℕ} → field-name n → OWS o → field-value v → OWS t → field-line (n ++ colon ++ o ++ v ++ t) (record { name = n; value = v })
+
+-- 2.1: *( field-line CRLF ) CRLF
+pub data header-block (r : Rules) : List ℕ → List Field → Type 0 where
+  end : {e : List ℕ} → line-end r e → header-block r e []
+  field : {w e b : List ℕ} {f : Field} {fs : List Field} → field-line w f → line-end r e → header-block r b fs → header-block r (w ++ e ++ b) (f ∷ fs)
+
+-- 2.1: start-line CRLF *( field-line CRLF ) CRLF, whatever the start line is
+pub data head (r : Rules) {L : Type 0} (start-line : List ℕ → L → Type 0) : List ℕ → L → List Field → Type 0 where
+  message : {e w c b : List ℕ} {l : L} {fs : List Field} → empty-lines r e → start-line w l → line-end r c → header-block r b fs → head r start-line (e ++ w ++ c ++ b) l fs
+
+-- 2.1: the head of a request, what its first line says, and its fields
+abbrev pub request-head : Rules → List ℕ → RequestLine → List Field → Type 0
+request-head r = head r (request-line r)
+
+-- 2.1: the head of a response
+abbrev pub response-head : Rules → List ℕ → StatusLine → List Field → Type 0
+response-head r = head r (status-line r)

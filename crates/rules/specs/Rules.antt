@@ -1,0 +1,59 @@
+-- Where a reading departs from the RFCs' grammar, one field each. Its name is that of its entry in docs/DIFFERENCES.md.
+-- Assumes nothing.
+use mathlib.Core.Bool.{Bool, true, false}
+
+pub record Rules : Type 0 where
+  -- LF alone ends a line of a head
+  pub lf-alone : Bool
+  -- any number of empty lines may stand before a head
+  pub empty-lines : Bool
+  -- a target is any row of visible bytes and bytes from 0x80 on that is UTF-8 as a whole
+  pub any-target : Bool
+  -- no version but 1.0 and 1.1
+  pub known-versions : Bool
+  -- a status line may end right behind its code
+  pub code-ends-line : Bool
+  -- a code is any three digits
+  pub any-code : Bool
+  -- a reason with a byte from 0x80 on is given as empty
+  pub obs-reason : Bool
+  -- blanks may stand behind a chunk size that has no extension
+  pub blank-behind-size : Bool
+  -- a chunk extension is a semicolon and any bytes but CR
+  pub any-extension : Bool
+  -- a chunk size line with no digit is size 0
+  pub no-digit : Bool
+  -- a chunk size has at most sixteen digits
+  pub sixteen-digits : Bool
+
+-- the RFCs' grammar as it stands
+abbrev pub strict : Rules
+strict = record {
+  lf-alone = false;
+  empty-lines = false;
+  any-target = false;
+  known-versions = false;
+  code-ends-line = false;
+  any-code = false;
+  obs-reason = false;
+  blank-behind-size = false;
+  any-extension = false;
+  no-digit = false;
+  sixteen-digits = false;
+}
+
+-- what httparse reads with no setting on
+abbrev pub default : Rules
+default = record {
+  lf-alone = true;
+  empty-lines = true;
+  any-target = true;
+  known-versions = true;
+  code-ends-line = true;
+  any-code = true;
+  obs-reason = true;
+  blank-behind-size = true;
+  any-extension = true;
+  no-digit = true;
+  sixteen-digits = true;
+}
