@@ -16,7 +16,7 @@ use Rattle.rules.specs.Rules.{Rules}
 use Rattle.fields.specs.declared.Header.{Header}
 use Rattle.fields.specs.Line.{Kind, lineStep}
 use Rattle.fields.specs.Block.{taken, lapStep, blockStep, block-fresh}
-use Rattle.leaves.specs.LineEnd.{Ends, crlf, lf}
+use Rattle.grammar.specs.Message.{line-end, crlf, lf}
 use Rattle.agreement.specs.Line.{Lined, exact-line}
 
 -- a line with the headers hs before it and n slots
@@ -26,11 +26,11 @@ Lapped r n hs = Passes (taken n hs) (Lined r)
 abbrev pub Blocked : Rules → ℕ → Relation (List Header)
 Blocked r n = Laps (Lapped r n) []
 
-ends-long : {r : Rules} {w : List ℕ} → Ends r w → 1 ≤ length w
+ends-long : {r : Rules} {w : List ℕ} → line-end r w → 1 ≤ length w
 ends-long crlf = omega arith
 ends-long (lf h) = omega arith
 
-line-long : (r : Rules) (p : ℕ) (w : List ℕ) (k : Kind) (rest : List ℕ) → Lined r p w k rest → 1 ≤ length w
+pub line-long : (r : Rules) (p : ℕ) (w : List ℕ) (k : Kind) (rest : List ℕ) → Lined r p w k rest → 1 ≤ length w
 line-long r p w k rest (one b bs e h g) = ends-long (g .holds)
 line-long r p w k rest (other b bs e h g) =
     omega (arith, ap length (g .whole), length-append (g .w₁) (g .w₂), ap length (g .left .whole), length-append (g .left .v) (58 ∷ []))

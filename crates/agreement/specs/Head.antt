@@ -27,7 +27,7 @@ abbrev pub Headed : {K : Type 0} → Rules → ℕ → Relation K → Relation (
 Headed {K} r n G = Both (Passes {F = Error × Known K} pass G) (λ k. Passes {F = Error × Known K} (λ hs. pass (k, hs)) (Blocked r n))
 
 module _ (r : Rules) (n : ℕ) where
-  exact-head : {K S : Type 0} (m : Step S K (Error × K)) (known : S → K) (s : S) {G : Relation K} → Exact m s G → Exact (headStep r n m known s) (first s) (Headed r n G)
+  pub exact-head : {K S : Type 0} (m : Step S K (Error × K)) (known : S → K) (s : S) {G : Relation K} → Exact m s G → Exact (headStep r n m known s) (first s) (Headed r n G)
   exact-head m known s M =
       exact-seq (judged pass (λ x. (x .0, (x .1, []))) m) (λ _. ([], fresh)) (blockOn r n m known s) s
       (exact-judged pass (λ x. (x .0, (x .1, []))) m M)

@@ -28,7 +28,7 @@ put4 l i a b c d h =
     let e₃ : i + 3 ≡ suc (suc (suc i)) = omega arith in
     rw (e₁, e₂, e₃) (sets-eq (a ∷ b ∷ c ∷ d ∷ []) l i h)
 
-length-flat : (hs : List Header) → length (flat hs) ≡ length hs * 4
+pub length-flat : (hs : List Header) → length (flat hs) ≡ length hs * 4
 unfolding flat
 length-flat [] = refl
 length-flat (h ∷ hs) = let r = length-flat hs in omega arith

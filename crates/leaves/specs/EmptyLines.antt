@@ -12,13 +12,9 @@ use Rattle.reader.specs.Machine.{Move, keep, before, Run, gave, Step, after, ru
 use Rattle.exact.specs.Exact.{Relation, Part, Exact}
 use Rattle.parts.specs.declared.Error.{Error}
 use Rattle.rules.specs.Rules.{Rules}
+use Rattle.grammar.specs.Message.{line-end, crlf, lf, empty-lines, none, more}
 use Rattle.parts.specs.EmptyLines.{EmptyLines, start, cr, emptyLinesStep}
 use Rattle.leaves.specs.Rows.{split, both-true}
-use Rattle.leaves.specs.LineEnd.{Ends, crlf, lf}
-
-pub data Empties (r : Rules) : List ℕ → Type 0 where
-  none : Empties r []
-  more : {e w : List ℕ} → r .empty-lines ≡ true → Ends r e → Empties r w → Empties r (e ++ w)
 
 -- a byte that begins no empty line
 pub record Stops (r : Rules) (rest : List ℕ) : Type 0 where
@@ -29,7 +25,7 @@ pub record Stops (r : Rules) (rest : List ℕ) : Type 0 where
   pub no-lf : (r .empty-lines && r .lf-alone && eqb b 10) ≡ false
 
 pub record EmptiesAt (r : Rules) (p : ℕ) (w : List ℕ) (a : Unit {0}) (rest : List ℕ) : Type 0 where
-  pub lines : Empties r w
+  pub lines : empty-lines r w
   pub stops : Stops r rest
 
 -- a line end at the start of a line, with the rules' fields as variables: to rewrite by one of them would rewrite the record
@@ -45,7 +41,7 @@ module _ (r : Rules) where
   Left start p xs q = Part (EmptiesAt r) p xs tt q
   Left cr p xs q = (ys : List ℕ) × (xs ≡ 10 ∷ ys) × Part (EmptiesAt r) (p + 1) ys tt q
 
-  one-more : (p q : ℕ) (e xs ys : List ℕ) → r .empty-lines ≡ true → Ends r e → xs ≡ e ++ ys → Part (EmptiesAt r) (p + length e) ys tt q → Part (EmptiesAt r) p xs tt q
+  one-more : (p q : ℕ) (e xs ys : List ℕ) → r .empty-lines ≡ true → line-end r e → xs ≡ e ++ ys → Part (EmptiesAt r) (p + length e) ys tt q → Part (EmptiesAt r) p xs tt q
   one-more p q e xs ys h k g P = record {
     w = e ++ P .w;
     rest = P .rest;
@@ -87,7 +83,7 @@ module _ (r : Rules) where
   complete-stop : (p : ℕ) (rest : List ℕ) → Stops r rest → run (emptyLinesStep r) start p rest ≡ gave tt p
   complete-stop p rest s = rw (s .whole, s .no-cr, s .no-lf)
 
-  complete-lines : {w : List ℕ} → Empties r w → (p : ℕ) (rest : List ℕ) → Stops r rest → run (emptyLinesStep r) start p (w ++ rest) ≡ gave tt (p + length w)
+  complete-lines : {w : List ℕ} → empty-lines r w → (p : ℕ) (rest : List ℕ) → Stops r rest → run (emptyLinesStep r) start p (w ++ rest) ≡ gave tt (p + length w)
   complete-lines none p rest s = let n : p ≡ p + 0 = omega arith in complete-stop p rest s ∙ ap (gave tt) n
   complete-lines (more {w = w} h crlf k) p rest s = let n : p + 1 + 1 + length w ≡ p + suc (suc (length w)) = omega arith in ap (λ v. after v p (λ s. run (emptyLinesStep r) s (p + 1) (10 ∷ (w ++ rest)))) (passes-cr (r .empty-lines) (r .lf-alone) h) ∙ complete-lines k (p + 1 + 1) rest s ∙ ap (gave tt) n
   complete-lines (more {w = w} h (lf g) k) p rest s = let n : p + 1 + length w ≡ p + suc (length w) = omega arith in ap (λ v. after v p (λ s. run (emptyLinesStep r) s (p + 1) (w ++ rest))) (passes-lf (r .empty-lines) (r .lf-alone) h g) ∙ complete-lines k (p + 1) rest s ∙ ap (gave tt) n

@@ -11,16 +11,12 @@ use borrow.Author.Tests.{eqb-true}
 use Rattle.reader.specs.Machine.{Move, keep, give, refuse, Run, more, gave, refused, Step, after, run}
 use Rattle.exact.specs.Exact.{Relation, Part, Exact}
 use Rattle.rules.specs.Rules.{Rules}
+use Rattle.grammar.specs.Message.{line-end, crlf, lf}
 use Rattle.parts.specs.LineEnd.{LineEnd, begin, cr, lineEndStep}
 use Rattle.leaves.specs.Rows.{split, both-true}
 
--- CR LF; or LF alone
-pub data Ends (r : Rules) : List ℕ → Type 0 where
-  crlf : Ends r (13 ∷ 10 ∷ [])
-  lf : r .lf-alone ≡ true → Ends r (10 ∷ [])
-
 abbrev pub EndsAt : Rules → Relation (Unit {0})
-EndsAt r p w a rest = Ends r w
+EndsAt r p w a rest = line-end r w
 
 module _ {E : Type 0} (r : Rules) (x : E) where
   sound-cr : (p : ℕ) (xs : List ℕ) (q : ℕ) → run (lineEndStep r x) cr p xs ≡ gave tt q → (ys : List ℕ) × (xs ≡ 10 ∷ ys) × (q ≡ p + 1)
@@ -39,7 +35,7 @@ module _ {E : Type 0} (r : Rules) (x : E) where
       (λ t e. let k = both-true (r .lf-alone) (eqb b 10) t in let l : p + 1 ≡ q = cc in record { w = 10 ∷ []; rest = bs; whole = ap (λ y. y ∷ bs) (eqb-true b 10 (k .1)); place = sym l; holds = lf (k .0) })
       (λ t e. let z : _≡_ {A = ℕ} 0 1 = cc in absurd (omega arith)))
 
-  complete-end : (p : ℕ) (w rest : List ℕ) (a : Unit {0}) → Ends r w → run (lineEndStep r x) begin p (w ++ rest) ≡ gave a (p + length w)
+  complete-end : (p : ℕ) (w rest : List ℕ) (a : Unit {0}) → line-end r w → run (lineEndStep r x) begin p (w ++ rest) ≡ gave a (p + length w)
   complete-end p w rest a crlf = let l : p + 1 + 1 ≡ p + 2 = omega arith in rw l
   complete-end p w rest a (lf h) = rw h
 

@@ -13,7 +13,8 @@ use Rattle.parts.specs.declared.Error.{Error}
 use Rattle.parts.specs.declared.Piece.{Piece}
 use Rattle.parts.specs.Answers.{piece}
 use Rattle.status.specs.Reason.{Reason, none, inside, empty, reasonStep}
-use Rattle.leaves.specs.Rows.{Many, none as no-more, more, In, split}
+use Rattle.grammar.specs.Rows.{Many, none as no-more, more}
+use Rattle.leaves.specs.Rows.{In, split}
 use Rattle.leaves.specs.Value.{Stop}
 
 -- a text byte that is ASCII, and one that is not

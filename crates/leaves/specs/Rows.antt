@@ -1,18 +1,8 @@
--- Rows of bytes, and tests that decide a move.
+-- Bytes of a class, and tests that decide a move.
 -- Assumes nothing.
 use Prim.Native.Nat.{ℕ}
 use mathlib.Core.Path.{_≡_, refl}
-use mathlib.Core.List.{List, [], _∷_}
 use mathlib.Core.Bool.{Bool, true, false, cond, _&&_, false≢true}
-
--- *c: any number of bytes c
-pub data Many (c : ℕ → Type 0) : List ℕ → Type 0 where
-  none : Many c []
-  more : {b : ℕ} {w : List ℕ} → c b → Many c w → Many c (b ∷ w)
-
--- 1*c: at least one
-pub data Some (c : ℕ → Type 0) : List ℕ → Type 0 where
-  some : {b : ℕ} {w : List ℕ} → c b → Many c w → Some c (b ∷ w)
 
 -- of a class
 abbrev pub In : (ℕ → Bool) → ℕ → Type 0

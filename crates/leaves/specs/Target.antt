@@ -17,7 +17,8 @@ use Rattle.parts.specs.declared.Error.{Error}
 use Rattle.parts.specs.declared.Piece.{Piece}
 use Rattle.parts.specs.Answers.{piece}
 use Rattle.words.specs.Target.{Utf8, Target, none, some as inside, feed, targetStep, resume-none, resume-fed, anywhere}
-use Rattle.leaves.specs.Rows.{Many, none as no-more, more, Some, some, In, split}
+use Rattle.grammar.specs.Rows.{Many, none as no-more, more, Some, some}
+use Rattle.leaves.specs.Rows.{In, split}
 
 -- the bytes v and a space; the answer is the piece of v
 pub record Targeted (p : ℕ) (w : List ℕ) (a : Piece) (rest : List ℕ) : Type 0 where

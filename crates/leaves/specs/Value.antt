@@ -13,7 +13,8 @@ use Rattle.parts.specs.declared.Error.{Error}
 use Rattle.parts.specs.declared.Piece.{Piece}
 use Rattle.parts.specs.Answers.{piece}
 use Rattle.fields.specs.Value.{Value, blanks, inside, valueStep}
-use Rattle.leaves.specs.Rows.{Many, none, more, In, split}
+use Rattle.grammar.specs.Rows.{Many, none, more}
+use Rattle.leaves.specs.Rows.{In, split}
 
 -- a byte of a value that is no blank
 pub record Solid (b : ℕ) : Type 0 where

@@ -13,7 +13,8 @@ use Rattle.exact.specs.Exact.{Relation, Part, Exact}
 use Rattle.parts.specs.declared.Piece.{Piece}
 use Rattle.parts.specs.Answers.{piece}
 use Rattle.words.specs.Word.{Word, none, some as inside, wordStep}
-use Rattle.leaves.specs.Rows.{Many, none as no-more, more, Some, some, In, split}
+use Rattle.grammar.specs.Rows.{Many, none as no-more, more, Some, some}
+use Rattle.leaves.specs.Rows.{In, split}
 
 -- the bytes v and the byte that ends them; the answer is the piece of v
 pub record Worded (class : ℕ → Bool) (end : ℕ) (p : ℕ) (w : List ℕ) (a : Piece) (rest : List ℕ) : Type 0 where

@@ -1,0 +1,134 @@
+-- The readers of the calls are exact for the grammar, and so the calls keep their promises.
+-- Assumes nothing.
+use Prim.Native.Nat.{ℕ, _+_, _-_, _/_, _≤_}
+use native.Mathlib.Omega.{arith}
+use mathlib.Core.Path.{_≡_, refl, sym, ap, subst, _∙_}
+use mathlib.Core.List.{List, [], _∷_, _++_}
+use lib.ListN.{length, take}
+use Rattle.reader.specs.Seq.{first}
+use Rattle.reader.specs.Answer.{Answer, got, short, bad, answered, bad-stays, lapwise}
+use Rattle.reader.specs.Branch.{fresh}
+use Rattle.rules.specs.Rules.{default}
+use Rattle.grammar.specs.Fields.{Field}
+use Rattle.grammar.specs.Message.{header-block, request-line, request-head, status-line, response-head}
+use Rattle.parts.specs.declared.Error.{Error}
+use Rattle.parts.specs.declared.Error.the-variants.{TooManyHeaders}
+use Rattle.parts.specs.declared.Passed.{Passed}
+use Rattle.parts.specs.declared.Passed.the-variants.{At, More, Bad}
+use Rattle.parts.specs.EmptyLines.{start}
+use Rattle.fields.specs.declared.Header.{Header}
+use Rattle.fields.specs.declared.Block.{Block}
+use Rattle.fields.specs.Slots.{filled}
+use Rattle.fields.specs.Block.{Blocks, blockStep, block}
+use Rattle.fields.specs.Block as blocks
+use Rattle.startline.specs.declared.RequestLine.{RequestLine}
+use Rattle.startline.specs.declared.StatusLine.{StatusLine}
+use Rattle.startline.specs.RequestLine as requests
+use Rattle.startline.specs.StatusLine as statuses
+use Rattle.startline.specs.Answers.{tell}
+use Rattle.heads.specs.Head.{Heads, Known, over, given, Told}
+use Rattle.heads.specs.Calls.{request, response}
+use Rattle.agreement.specs.Block.{exact-block}
+use Rattle.agreement.specs.StartLine.{exact-request-line, exact-status-line}
+use Rattle.agreement.specs.Places.{at-start}
+use Rattle.agreement.specs.Fields.{fieldsOf, block-derived, block-read, block-over, few-fields}
+use Rattle.agreement.specs.Starts.{Fixed}
+use Rattle.agreement.specs.Known.{RequestSays, StatusSays}
+use Rattle.agreement.specs.Request.{request-derived, request-read}
+use Rattle.agreement.specs.Response.{response-derived, response-read}
+use Rattle.agreement.specs.Exactly.{Found, Tells, Exactly, exactly}
+use Rattle.agreement.specs.Promises.{HeadPromise, block-alone, says-nothing}
+use Rattle.agreement.specs.Kept.{kept}
+
+default-fixed : Fixed default
+default-fixed = record { any-target = refl; known-versions = refl; any-code = refl; obs-reason = refl }
+
+module _ (n : ℕ) where
+  pub request-exactly : Exactly (request-head default) RequestSays n (request default n)
+  unfolding request
+  request-exactly =
+      exactly default n (requests.requestLineStep default) requests.lineKnown (first start) (exact-request-line default) (request-line default) RequestSays
+      (λ z w rest k h g. request-derived default-fixed h g) (λ z e l c rest g h a b d. request-read default-fixed h a b d)
+
+  pub response-exactly : Exactly (response-head default) StatusSays n (response default n)
+  unfolding response
+  response-exactly =
+      exactly default n (statuses.statusLineStep default) statuses.lineKnown (first start) (exact-status-line default) (status-line default) StatusSays
+      (λ z w rest k h g. response-derived default-fixed h g) (λ z e l c rest g h a b d. response-read default-fixed h a b d)
+
+-- the answer of a block as that of a head with no start line
+abbrev alone : Blocks → Heads (Unit {0})
+alone b = over {K = Unit {0}} tt b
+
+abbrev headersOf : ℕ → List ℕ → Heads (Unit {0})
+headersOf n z = alone (block default n [] z 0)
+
+got-block : (b : Blocks) (k : Unit {0}) (hs : List Header) (q : ℕ) → _≡_ {A = Heads (Unit {0})} (alone b) (got (k, hs) q) → b ≡ got hs q
+got-block (got x p) k hs q e = let u : _≡_ {A = Known (Unit {0})} (tt, x) (k, hs) = cc in let v : p ≡ q = cc in rw v (ap (λ y. got (y .1) q) u)
+got-block (short x) k hs q e = let n : _≡_ {A = ℕ} 0 1 = cc in absurd (omega arith)
+got-block (bad x) k hs q e = let n : _≡_ {A = ℕ} 0 1 = cc in absurd (omega arith)
+
+bad-block : (b : Blocks) (x : Error × Known (Unit {0})) → _≡_ {A = Heads (Unit {0})} (alone b) (bad x) → b ≡ bad (x .0, x .1 .1)
+bad-block (got y p) x e = let n : _≡_ {A = ℕ} 0 1 = cc in absurd (omega arith)
+bad-block (short y) x e = let n : _≡_ {A = ℕ} 0 1 = cc in absurd (omega arith)
+bad-block (bad y) x e = let u : _≡_ {A = Error × Known (Unit {0})} (y .0, (tt, y .1)) x = cc in ap (λ v. bad (v .0, v .1 .1)) u
+
+given-block : (b : Blocks) → given (alone b) ≡ blocks.given b
+given-block (got x q) = refl
+given-block (short x) = refl
+given-block (bad x) = refl
+
+module _ (n : ℕ) where
+  found-block : (z : List ℕ) (k : Unit {0}) (hs : List Header) (q : ℕ) → headersOf n z ≡ got (k, hs) q → Found block-alone says-nothing n z k hs q
+  found-block z k hs q e =
+      let P = exact-block default n .sound 0 z hs q (answered (lapwise (λ hs _. hs)) _ (got-block (block default n [] z 0) k hs q e)) in
+      let A = block-derived (record { before = []; whole = P .whole; place = refl }) (P .holds) in
+      record {
+        w = P .w;
+        rest = P .rest;
+        l = tt;
+        whole = P .whole;
+        place = omega (arith, P .place);
+        head = subst (λ y. header-block default (P .w) (fieldsOf z y)) (sym (A .whole)) (A .block);
+        says = tt;
+        fits = A .fits (omega arith);
+      }
+
+  pub headers-exactly : Exactly block-alone says-nothing n (headersOf n)
+  headers-exactly = record {
+    sound = found-block;
+    complete = λ w rest l fs h f.
+        let F = block-read (w ++ rest) default n (at-start w rest) h [] (omega (arith, f)) in
+        let q : 0 + length w ≡ length w = omega arith in
+        record { k = tt; hs = F .new; says = tt; holds = F .holds; answers = ap alone (F .answers) ∙ ap (got (tt, F .new)) q };
+    too-many = λ w rest l fs h f.
+        let F = block-over (w ++ rest) default n (at-start w rest) h [] (omega arith) (omega (arith, f)) in
+        let j : n - 0 ≡ n = omega arith in
+        record { k = tt; hs = F .new; says = tt; holds = F .holds ∙ ap (λ y. take y fs) j; answers = ap alone (F .answers) };
+    few = λ z. subst (λ y. length y ≤ n) (sym (given-block (block default n [] z 0))) (few-fields z default n [] 0 (omega arith));
+    stays = λ s u x e. ap alone (bad-stays (lapwise (λ hs _. hs)) (blockStep default n) s u ([], fresh) 0 (bad-block (block default n [] s 0) x e));
+  }
+
+module _ {s old : List ℕ} {end : Passed} {count : ℕ} {new : List ℕ} where
+  pub request-promise : {line : RequestLine} → Told (request default (length old / 4) s) end line count old new → HeadPromise (request-head default) RequestSays s old end line count new
+  request-promise T = kept (request-exactly (length old / 4)) T
+
+  pub response-promise : {line : StatusLine} → Told (response default (length old / 4) s) end line count old new → HeadPromise (response-head default) StatusSays s old end line count new
+  response-promise T = kept (response-exactly (length old / 4)) T
+
+tell-alone : (end : Passed) (hs : List Header) → tell end (tt, hs) ≡ alone (blocks.tell end hs)
+tell-alone (At q) hs = refl
+tell-alone More hs = refl
+tell-alone (Bad e) hs = refl
+
+pub headers-promise : {s old : List ℕ} {r : Block} {new : List ℕ} → blocks.Told (block default (length old / 4) [] s 0) r old new → HeadPromise block-alone says-nothing s old (r .end) tt (r .count) new
+headers-promise {s} {old} {r} {new} T =
+    let b : Blocks = block default (length old / 4) [] s 0 in
+    let g : given (alone b) ≡ blocks.given b = given-block b in
+    let U : Told (headersOf (length old / 4) s) (r .end) tt (r .count) old new =
+    record {
+      answer = ap (λ y. tell (r .end) (tt, y)) g ∙ tell-alone (r .end) (blocks.given b) ∙ ap alone (T .answer);
+      count-is = T .count ∙ ap length (sym g);
+      slots = T .slots ∙ ap (λ y. filled y old) (sym g);
+    } in
+    kept (headers-exactly (length old / 4)) U

@@ -1,0 +1,134 @@
+-- A reader of heads with n slots, against what the grammar calls a head: the laws from which the promises follow.
+-- Assumes nothing.
+use Prim.Native.Nat.{ℕ, _+_, _-_, _≤_, _<_}
+use native.Mathlib.Omega.{arith}
+use mathlib.Core.Path.{_≡_, refl, sym, ap, subst, _∙_}
+use mathlib.Core.List.{List, [], _∷_, _++_, append-assoc}
+use lib.ListN.{length, take, drop, length-append}
+use Rattle.reader.specs.Machine.{Step, run, runAt}
+use Rattle.reader.specs.Seq.{Then, first}
+use Rattle.reader.specs.Answer.{Answer, got, short, bad, answer, answered, bad-stays}
+use Rattle.reader.specs.Branch.{fresh}
+use Rattle.exact.specs.Exact.{Relation, Exact}
+use Rattle.rules.specs.Rules.{Rules}
+use Rattle.grammar.specs.Fields.{Field}
+use Rattle.grammar.specs.Message.{empty-lines, line-end, header-block, head}
+use Rattle.grammar.specs.Message as grammar
+use Rattle.parts.specs.declared.Error.{Error}
+use Rattle.parts.specs.declared.Error.the-variants.{TooManyHeaders}
+use Rattle.fields.specs.declared.Header.{Header}
+use Rattle.fields.specs.Block.{Blocks, block}
+use Rattle.fields.specs.Block as blocks
+use Rattle.heads.specs.Head.{Heads, Known, headStep, headKnown, over, headed, head-parts, given}
+use Rattle.heads.specs.Head as heads
+use Rattle.agreement.specs.Block.{Blocked, exact-block}
+use Rattle.agreement.specs.Head.{Headed, exact-head}
+use Rattle.agreement.specs.Places.{At, at-start, at-as, at-first, at-second, from-at}
+use Rattle.agreement.specs.Fields.{fieldsOf, block-derived, block-read, block-over, few-fields}
+use Rattle.agreement.specs.Known.{Started, LineRead}
+use Rattle.agreement.specs.Steps.{passed-is}
+
+module _ {L K : Type 0} (Head : List ℕ → L → List Field → Type 0) (Says : List ℕ → K → L → Type 0) (n : ℕ) where
+  -- the first q bytes of z are a head, and k and hs say what it says
+  pub record Found (z : List ℕ) (k : K) (hs : List Header) (q : ℕ) : Type 0 where
+    pub w : List ℕ
+    pub rest : List ℕ
+    pub l : L
+    pub whole : z ≡ w ++ rest
+    pub place : q ≡ length w
+    pub head : Head w l (fieldsOf z hs)
+    pub says : Says z k l
+    pub fits : length hs ≤ n
+
+  -- the answer a is of this form, and tells l and fs
+  pub record Tells (z : List ℕ) (l : L) (fs : List Field) (a : K → List Header → Heads K) (b : Heads K) : Type 0 where
+    pub k : K
+    pub hs : List Header
+    pub says : Says z k l
+    pub holds : fieldsOf z hs ≡ fs
+    pub answers : b ≡ a k hs
+
+  pub record Exactly (read : List ℕ → Heads K) : Type 0 where
+    pub sound : (z : List ℕ) (k : K) (hs : List Header) (q : ℕ) → read z ≡ got (k, hs) q → Found z k hs q
+    pub complete : (w rest : List ℕ) (l : L) (fs : List Field) → Head w l fs → length fs ≤ n → Tells (w ++ rest) l fs (λ k hs. got (k, hs) (length w)) (read (w ++ rest))
+    pub too-many : (w rest : List ℕ) (l : L) (fs : List Field) → Head w l fs → n < length fs → Tells (w ++ rest) l (take n fs) (λ k hs. bad (TooManyHeaders, (k, hs))) (read (w ++ rest))
+    pub few : (z : List ℕ) → length (given (read z)) ≤ n
+    pub stays : (s u : List ℕ) (x : Error × Known K) → read s ≡ bad x → read (s ++ u) ≡ bad x
+
+module _ (r : Rules) (n : ℕ) {L K S : Type 0} (m : Step S K (Error × K)) (known : S → K) (s : S) {G : Relation K} (M : Exact m s G)
+    (start-line : List ℕ → L → Type 0) (Says : List ℕ → K → L → Type 0)
+    (derived : (z w rest : List ℕ) (k : K) → At z 0 w rest → G 0 w k rest → Started r start-line (Says z k) w)
+    (reads : (z e l c rest : List ℕ) (g : L) → At z 0 (e ++ l ++ c) rest → empty-lines r e → start-line l g → line-end r c → LineRead Says G z 0 (e ++ l ++ c) g rest) where
+  abbrev read : List ℕ → Heads K
+  read z = heads.head r n m known s z
+
+  found : (z : List ℕ) (k : K) (hs : List Header) (q : ℕ) → read z ≡ got (k, hs) q → Found (head r start-line) Says n z k hs q
+  found z k hs q e =
+      let P = exact-head r n m known s M .sound 0 z (k, hs) q (answered (headKnown r n m known s) _ e) in
+      let B = P .holds in
+      let h : At z 0 (P .w) (P .rest) = record { before = []; whole = P .whole; place = refl } in
+      let h′ = at-as (B .whole) h in
+      let D = derived z (B .w₁) (B .w₂ ++ P .rest) (B .left .a) (at-first (B .w₁) (B .w₂) h′) (B .left .holds) in
+      let A = block-derived (at-second (B .w₁) (B .w₂) h′) (B .right .holds) in
+      let same-k : B .a ≡ B .left .a = passed-is (B .left .passes) in
+      let same : _≡_ {A = Known K} (k, hs) (B .a, B .right .a) = passed-is (B .right .passes) in
+      let k-is : k ≡ B .left .a = ap (λ y. y .0) same ∙ same-k in
+      let hs-is : hs ≡ A .new = ap (λ y. y .1) same ∙ A .whole in
+      record {
+        w = D .e ++ D .l ++ D .c ++ B .w₂;
+        rest = P .rest;
+        l = D .g;
+        whole = P .whole ∙ ap (λ y. y ++ P .rest) (B .whole ∙ ap (λ y. y ++ B .w₂) (D .whole));
+        place = omega (arith, P .place, ap length (B .whole ∙ ap (λ y. y ++ B .w₂) (D .whole)));
+        head = subst (λ y. head r start-line (D .e ++ D .l ++ D .c ++ B .w₂) (D .g) (fieldsOf z y)) (sym hs-is) (grammar.head.message (D .empty) (D .line) (D .ends) (A .block));
+        says = subst (λ y. Says z y (D .g)) (sym k-is) (D .says);
+        fits = omega (arith, A .fits (omega arith), ap length (ap (λ y. y .1) same));
+      }
+
+  -- behind the start line the block is left
+  line-got : (z w rest : List ℕ) (k : K) → At z 0 w rest → G 0 w k rest → read z ≡ over k (block r n [] z (0 + length w))
+  line-got z w rest k h g =
+      head-parts r n m known s z
+      ∙ ap (λ a. headed a (λ k q. over k (block r n [] z q))) (ap (λ y. answer known (run m s 0 y)) (from-at h) ∙ ap (answer known) (M .complete 0 w rest k g))
+
+  complete-head : (w rest : List ℕ) (l : L) (fs : List Field) → head r start-line w l fs → length fs ≤ n → Tells (head r start-line) Says n (w ++ rest) l fs (λ k hs. got (k, hs) (length w)) (read (w ++ rest))
+  complete-head w rest l fs (grammar.head.message {e = e} {w = v} {c = c} {b = b} empty line ends block) f =
+      let z : List ℕ = e ++ v ++ c ++ b ++ rest in
+      let h = at-start (e ++ v ++ c ++ b) rest in
+      let h₁ = at-first (e ++ v ++ c) b h in
+      let R = reads z e v c (b ++ rest) l h₁ empty line ends in
+      let F = block-read z r n (at-second (e ++ v ++ c) b h) block [] (omega (arith, f)) in
+      let q : 0 + length (e ++ v ++ c) + length b ≡ length (e ++ v ++ c ++ b) = omega (arith, length-append (e ++ v ++ c) b) in
+      record { k = R .k; hs = F .new; says = R .says; holds = F .holds; answers = line-got z (e ++ v ++ c) (b ++ rest) (R .k) h₁ (R .reads) ∙ ap (over (R .k)) (F .answers) ∙ ap (got (R .k, F .new)) q }
+
+  over-head : (w rest : List ℕ) (l : L) (fs : List Field) → head r start-line w l fs → n < length fs → Tells (head r start-line) Says n (w ++ rest) l (take n fs) (λ k hs. bad (TooManyHeaders, (k, hs))) (read (w ++ rest))
+  over-head w rest l fs (grammar.head.message {e = e} {w = v} {c = c} {b = b} empty line ends block) f =
+      let z : List ℕ = e ++ v ++ c ++ b ++ rest in
+      let h = at-start (e ++ v ++ c ++ b) rest in
+      let h₁ = at-first (e ++ v ++ c) b h in
+      let R = reads z e v c (b ++ rest) l h₁ empty line ends in
+      let F = block-over z r n (at-second (e ++ v ++ c) b h) block [] (omega arith) (omega (arith, f)) in
+      let j : n - 0 ≡ n = omega arith in
+      record { k = R .k; hs = F .new; says = R .says; holds = F .holds ∙ ap (λ y. take y fs) j; answers = line-got z (e ++ v ++ c) (b ++ rest) (R .k) h₁ (R .reads) ∙ ap (over (R .k)) (F .answers) }
+
+  few-over : (z : List ℕ) (k : K) (b : Blocks) → length (blocks.given b) ≤ n → length (given (over k b)) ≤ n
+  few-over z k (got hs q) l = l
+  few-over z k (short hs) l = l
+  few-over z k (bad x) l = l
+
+  few-headed : (z : List ℕ) (a : Answer K K (Error × K)) → length (given (headed a (λ k q. over k (block r n [] z q)))) ≤ n
+  few-headed z (got k q) = few-over z k (block r n [] z q) (few-fields z r n [] q (omega arith))
+  few-headed z (short k) = omega arith
+  few-headed z (bad x) = omega arith
+
+  few-heads : (z : List ℕ) → length (given (read z)) ≤ n
+  few-heads z = subst (λ a. length (given a) ≤ n) (sym (head-parts r n m known s z)) (few-headed z (answer known (runAt m s z 0)))
+
+  pub exactly : Exactly (head r start-line) Says n read
+  exactly = record {
+    sound = found;
+    complete = complete-head;
+    too-many = over-head;
+    few = few-heads;
+    stays = λ z u x. bad-stays (headKnown r n m known s) (headStep r n m known s) z u (first s) 0;
+  }

@@ -1,0 +1,173 @@
+-- A block is read exactly where the grammar has one whose fields fit the slots; where they don't, the error is TooManyHeaders.
+-- Assumes nothing.
+use Prim.Native.Nat.{ℕ, zero, suc, _+_, _-_, _≤_, _<_}
+use native.Mathlib.Omega.{arith}
+use mathlib.Core.Path.{_≡_, refl, sym, ap, subst, _∙_}
+use mathlib.Core.List.{List, [], _∷_, _++_, append-assoc, append-nil, map}
+use mathlib.Core.Bool.{Bool, true, false, cond}
+use lib.Dec.{ltb}
+use lib.ListN.{length, take, drop, length-append, length-drop}
+use borrow.Author.Tests.{ltb-true, ltb-false, lt-ltb, le-ltb}
+use Rattle.reader.specs.Machine.{run, gave}
+use Rattle.reader.specs.Judged.{Verdict, pass, fail}
+use Rattle.reader.specs.Loop.{Turn, again, done}
+use Rattle.reader.specs.Answer.{Answer, got, short, bad, answer, answered, verdict, retold, rounds}
+use Rattle.reader.specs.Chain.{nothing}
+use Rattle.reader.specs.Branch.{fresh}
+use Rattle.exact.specs.Judged.{Passes}
+use Rattle.exact.specs.Loop.{Laps, last, next}
+use Rattle.rules.specs.Rules.{Rules}
+use Rattle.grammar.specs.Fields.{Field}
+use Rattle.grammar.specs.Message.{line-end, header-block}
+use Rattle.grammar.specs.Message as grammar
+use Rattle.parts.specs.declared.Error.{Error}
+use Rattle.parts.specs.declared.Error.the-variants.{TooManyHeaders}
+use Rattle.fields.specs.declared.Header.{Header}
+use Rattle.fields.specs.Line.{Kind, header, end, lineStep, line}
+use Rattle.fields.specs.Block.{taken, block, block-line, given}
+use Rattle.leaves.specs.Rows.{split}
+use Rattle.agreement.specs.Line.{Lined, exact-line}
+use Rattle.agreement.specs.Block.{Lapped, line-long}
+use Rattle.agreement.specs.Places.{At, at-as, at-first, at-second, from-at}
+use Rattle.agreement.specs.FieldLine.{fieldOf, LineIs, ended, field, line-derived, field-read, end-read}
+
+-- the fields that headers hold
+abbrev pub fieldsOf : List ℕ → List Header → List Field
+fieldsOf z hs = map (fieldOf z) hs
+
+-- the headers that a block adds to those before it
+pub record Added (z : List ℕ) (r : Rules) (n : ℕ) (hs : List Header) (w : List ℕ) (all : List Header) : Type 0 where
+  pub new : List Header
+  pub whole : all ≡ hs ++ new
+  pub block : header-block r w (fieldsOf z new)
+  pub fits : length hs ≤ n → length all ≤ n
+
+-- what a line does to the headers, where the block goes on and where it ends
+abbrev Next : Type 0
+Next = Verdict (Turn (List Header) (List Header)) (Error × List Header)
+
+again-is : (t : Bool) (hs hs′ new : List Header) → _≡_ {A = Next} (cond t (pass (again new)) (fail (TooManyHeaders, hs))) (pass (again hs′)) → (t ≡ true) × (new ≡ hs′)
+again-is true hs hs′ new e = (refl, cc)
+again-is false hs hs′ new e = let z : _≡_ {A = ℕ} 0 1 = cc in absurd (omega arith)
+
+never-done : (t : Bool) (hs b new : List Header) → _≡_ {A = Next} (cond t (pass (again new)) (fail (TooManyHeaders, hs))) (pass (done b)) → ⊥
+never-done true hs b new e = let z : _≡_ {A = ℕ} 0 1 = cc in omega arith
+never-done false hs b new e = let z : _≡_ {A = ℕ} 0 1 = cc in omega arith
+
+module _ {z : List ℕ} {r : Rules} {n : ℕ} where
+  last-line : (hs : List Header) (w : List ℕ) (b : List Header) (k : Kind) → LineIs z r w k → taken n hs k ≡ pass (done b) → Added z r n hs w b
+  last-line hs w b k (ended e d) t =
+      let t′ : _≡_ {A = Next} (pass (done hs)) (pass (done b)) = rw e at t in
+      let same : b ≡ hs = cc in
+      record { new = []; whole = same ∙ sym (append-nil hs); block = grammar.header-block.end d; fits = λ l. omega (arith, ap length same) }
+  last-line hs w b k (field h l e q s f d) t =
+      let t′ : taken n hs (header h) ≡ pass (done b) = rw q at t in absurd (never-done (ltb (length hs) n) hs b (hs ++ (h ∷ [])) t′)
+
+  next-line : (hs hs′ : List Header) (w v : List ℕ) (b : List Header) (k : Kind) → LineIs z r w k → taken n hs k ≡ pass (again hs′) → Added z r n hs′ v b → Added z r n hs (w ++ v) b
+  next-line hs hs′ w v b k (ended e d) t A =
+      let t′ : _≡_ {A = Next} (pass (done hs)) (pass (again hs′)) = rw e at t in
+      let z : _≡_ {A = ℕ} 0 1 = cc in absurd (omega arith)
+  next-line hs hs′ w v b k (field h l e q s f d) t A =
+      let t′ : taken n hs (header h) ≡ pass (again hs′) = rw q at t in
+      let u = again-is (ltb (length hs) n) hs hs′ (hs ++ (h ∷ [])) t′ in
+      record {
+        new = h ∷ A .new;
+        whole = A .whole ∙ ap (λ y. y ++ A .new) (sym (u .1)) ∙ append-assoc hs (h ∷ []) (A .new);
+        block = subst (λ y. header-block r (y ++ v) (fieldsOf z (h ∷ A .new))) (sym s) (grammar.header-block.field f d (A .block));
+        fits = λ i. A .fits (let j : length hs < n = ltb-true (length hs) n (u .0) in omega (arith, ap length (u .1), length-append hs (h ∷ [])));
+      }
+
+  pub block-derived : {hs : List Header} {p : ℕ} {w : List ℕ} {b : List Header} {rest : List ℕ} → At z p w rest → Laps (Lapped r n) hs p w b rest → Added z r n hs w b
+  block-derived h (last {a = hs} {w = w} {b = b} K) = last-line hs w b (K .a) (line-derived h (K .holds)) (K .passes)
+  block-derived h (next {a = hs} {a′ = hs′} {w₁ = w} {w₂ = v} {b = b} K k) = next-line hs hs′ w v b (K .a) (line-derived (at-first w v h) (K .holds)) (K .passes) (block-derived (at-second w v h) k)
+
+-- the answer of a line that stands at a place
+line-at : {z : List ℕ} {r : Rules} {p : ℕ} {w : List ℕ} {k : Kind} {rest : List ℕ} → At z p w rest → Lined r p w k rest → line r z p ≡ got k (p + length w)
+line-at {z} {r} {p} {w} {k} {rest} h K = ap (λ y. answer nothing (run (lineStep r) fresh p y)) (from-at h) ∙ ap (answer nothing) (exact-line r .complete p w rest k K)
+
+module _ (z : List ℕ) (r : Rules) (n : ℕ) where
+  -- a header that has a slot, and one that has none
+  one-more : (hs : List Header) (h : Header) (p q : ℕ) → line r z p ≡ got (header h) q → length hs < n → block r n hs z p ≡ block r n (hs ++ (h ∷ [])) z q
+  one-more hs h p q e l = block-line r n hs z p ∙ rw (e, lt-ltb (length hs) n l)
+
+  one-over : (hs : List Header) (h : Header) (p q : ℕ) → line r z p ≡ got (header h) q → n ≤ length hs → block r n hs z p ≡ bad (TooManyHeaders, hs)
+  one-over hs h p q e l = block-line r n hs z p ∙ rw (e, le-ltb (length hs) n l)
+
+  the-end : (hs : List Header) (p q : ℕ) → line r z p ≡ got end q → block r n hs z p ≡ got hs q
+  the-end hs p q e = block-line r n hs z p ∙ rw e
+
+  -- where the fields fit all of them are given
+  pub record Fits (hs : List Header) (p : ℕ) (w : List ℕ) (fs : List Field) : Type 0 where
+    pub new : List Header
+    pub holds : fieldsOf z new ≡ fs
+    pub answers : block r n hs z p ≡ got (hs ++ new) (p + length w)
+
+  -- where they don't, those that fit are
+  pub record Over (hs : List Header) (p : ℕ) (fs : List Field) : Type 0 where
+    pub new : List Header
+    pub holds : fieldsOf z new ≡ take (n - length hs) fs
+    pub answers : block r n hs z p ≡ bad (TooManyHeaders, hs ++ new)
+
+  pub block-read : {p : ℕ} {w rest : List ℕ} {fs : List Field} → At z p w rest → header-block r w fs → (hs : List Header) → length hs + length fs ≤ n → Fits hs p w fs
+  block-read {p} h (grammar.header-block.end {e = e} d) hs l = record { new = []; holds = refl; answers = the-end hs p (p + length e) (line-at h (end-read d)) ∙ ap (λ y. got y (p + length e)) (sym (append-nil hs)) }
+  block-read {p} h (grammar.header-block.field {w = w} {e = e} {b = v} {f = g} f d k) hs l =
+      let h₁ = at-first (w ++ e) v h in
+      let H = field-read h₁ f d in
+      let q : ℕ = p + length (w ++ e) in
+      let m : length (hs ++ (H .h ∷ [])) ≡ length hs + 1 = length-append hs (H .h ∷ []) in
+      let K = block-read (at-second (w ++ e) v h) k (hs ++ (H .h ∷ [])) (omega (arith, m, l)) in
+      let j : q + length v ≡ p + length (w ++ e ++ v) = omega (arith, length-append (w ++ e) v) in
+      record {
+        new = H .h ∷ K .new;
+        holds = ap (λ y. y ∷ fieldsOf z (K .new)) (H .holds) ∙ ap (λ y. g ∷ y) (K .holds);
+        answers = one-more hs (H .h) p q (line-at h₁ (H .reads)) (omega (arith, l)) ∙ K .answers ∙ ap (λ y. got y (q + length v)) (append-assoc hs (H .h ∷ []) (K .new)) ∙ ap (got (hs ++ (H .h ∷ K .new))) j;
+      }
+
+  over-by : {p : ℕ} {fs : List Field} {f : Field} (hs : List Header) (h : Header) (q : ℕ) → line r z p ≡ got (header h) q → fieldOf z h ≡ f → length hs ≤ n → (length hs < n → Over (hs ++ (h ∷ [])) q fs) → (t : Bool) → ltb (length hs) n ≡ t → Over hs p (f ∷ fs)
+  over-by {p} {fs} {f} hs h q e g l go true u =
+      let K = go (ltb-true (length hs) n u) in
+      let m : length (hs ++ (h ∷ [])) ≡ length hs + 1 = length-append hs (h ∷ []) in
+      let j : n - length hs ≡ suc (n - length (hs ++ (h ∷ []))) = omega (arith, m, ltb-true (length hs) n u) in
+      record {
+        new = h ∷ K .new;
+        holds = ap (λ y. y ∷ fieldsOf z (K .new)) g ∙ ap (λ y. f ∷ y) (K .holds) ∙ sym (ap (λ y. take y (f ∷ fs)) j);
+        answers = one-more hs h p q e (ltb-true (length hs) n u) ∙ K .answers ∙ ap (λ y. bad (TooManyHeaders, y)) (append-assoc hs (h ∷ []) (K .new));
+      }
+  over-by {p} {fs} {f} hs h q e g l go false u =
+      let o : n ≤ length hs = ltb-false (length hs) n u in
+      let j : n - length hs ≡ 0 = omega (arith, o) in
+      record { new = []; holds = sym (ap (λ y. take y (f ∷ fs)) j); answers = one-over hs h p q e o ∙ ap (λ y. bad (TooManyHeaders, y)) (sym (append-nil hs)) }
+
+  pub block-over : {p : ℕ} {w rest : List ℕ} {fs : List Field} → At z p w rest → header-block r w fs → (hs : List Header) → length hs ≤ n → n < length hs + length fs → Over hs p fs
+  block-over h (grammar.header-block.end d) hs l o = absurd (omega (arith, l, o))
+  block-over {p} h (grammar.header-block.field {w = w} {e = e} {b = v} f d k) hs l o =
+      let h₁ = at-first (w ++ e) v h in
+      let H = field-read h₁ f d in
+      let m : length (hs ++ (H .h ∷ [])) ≡ length hs + 1 = length-append hs (H .h ∷ []) in
+      over-by hs (H .h) (p + length (w ++ e)) (line-at h₁ (H .reads)) (H .holds) l
+      (λ i. block-over (at-second (w ++ e) v h) k (hs ++ (H .h ∷ [])) (omega (arith, m, i)) (omega (arith, m, o))) (ltb (length hs) n) refl
+
+  -- a line's end is behind its start, and in the input
+  line-within : (p q : ℕ) (k : Kind) → line r z p ≡ got k q → (p + 1 ≤ q) × (q ≤ length z)
+  line-within p q k e =
+      let P = exact-line r .sound p (drop p z) k q (answered nothing _ e) in
+      let l : length z - p ≡ length (P .w) + length (P .rest) = sym (length-drop p z) ∙ ap length (P .whole) ∙ length-append (P .w) (P .rest) in
+      let s : 1 ≤ length (P .w) = line-long r p (P .w) k (P .rest) (P .holds) in
+      (omega (arith, P .place, s), omega (arith, P .place, s, l))
+
+  -- no more headers are given than there are slots
+  few-line : (hs : List Header) (p : ℕ) → length hs ≤ n → ((hs′ : List Header) (q : ℕ) → length hs′ ≤ n → p + 1 ≤ q → q ≤ length z → length (given (block r n hs′ z q)) ≤ n) → (a : Answer (Unit {0}) Kind Error) → line r z p ≡ a → length (given (rounds (retold (λ _. hs) (taken n hs) (λ e. (e, hs)) a) (λ hs′ q. block r n hs′ z q))) ≤ n
+  few-line hs p f ih (short u) e = f
+  few-line hs p f ih (bad x) e = f
+  few-line hs p f ih (got end q) e = f
+  few-line hs p f ih (got (header h) q) e =
+      split (λ v. length (given (rounds (verdict {U = Unit {0}} (λ _. hs) (taken n hs) (λ e. (e, hs)) v q) (λ hs′ q. block r n hs′ z q))) ≤ n) (ltb (length hs) n)
+      (λ t. let k = line-within p q (header h) e in ih (hs ++ (h ∷ [])) q (omega (arith, ltb-true (length hs) n t, length-append hs (h ∷ []))) (k .0) (k .1))
+      (λ t. f)
+
+  few-by : (m : ℕ) (hs : List Header) (p : ℕ) → length z ≤ p + m → length hs ≤ n → length (given (block r n hs z p)) ≤ n
+  few-by zero hs p l f = subst (λ a. length (given a) ≤ n) (sym (block-line r n hs z p)) (few-line hs p f (λ hs′ q g i j. absurd (omega (arith, i, j, l))) (line r z p) refl)
+  few-by (suc m) hs p l f = subst (λ a. length (given a) ≤ n) (sym (block-line r n hs z p)) (few-line hs p f (λ hs′ q g i j. few-by m hs′ q (omega (arith, i, l)) g) (line r z p) refl)
+
+  pub few-fields : (hs : List Header) (p : ℕ) → length hs ≤ n → length (given (block r n hs z p)) ≤ n
+  few-fields hs p = few-by (length z) hs p (omega arith)

@@ -1,0 +1,132 @@
+-- The promises are kept wherever a call tells what an exact reader answers.
+-- Assumes nothing.
+use Prim.Native.Nat.{ℕ, suc, _+_, _*_, _/_, _≤_, _<_}
+use native.Mathlib.Omega.{arith}
+use mathlib.Core.Path.{_≡_, refl, sym, ap, subst, _∙_}
+use mathlib.Core.List.{List, [], _∷_, _++_}
+use mathlib.Core.Bool.{Bool, true, false}
+use lib.Dec.{ltb}
+use lib.ListN.{length, take, drop}
+use lib.Seq.{drop-at}
+use borrow.Author.Tests.{ltb-true, ltb-false}
+use Rattle.reader.specs.Answer.{Answer, got, short, bad}
+use Rattle.grammar.specs.Fields.{Field}
+use Rattle.parts.specs.declared.Error.{Error}
+use Rattle.parts.specs.declared.Error.the-variants.{TooManyHeaders}
+use Rattle.parts.specs.declared.Passed.{Passed}
+use Rattle.parts.specs.declared.Passed.the-variants.{At, More, Bad}
+use Rattle.fields.specs.declared.Header.{Header}
+use Rattle.fields.specs.Slots.{flat, filled, length-flat}
+use Rattle.startline.specs.Answers.{tell}
+use Rattle.heads.specs.Head.{Heads, Known, given, Told}
+use Rattle.agreement.specs.FieldLine.{fieldOf}
+use Rattle.agreement.specs.Fields.{fieldsOf}
+use Rattle.agreement.specs.Known.{fieldsIn}
+use Rattle.agreement.specs.Exactly.{Found, Tells, Exactly}
+use Rattle.agreement.specs.Promises.{HeadAt, HeadPromise}
+
+-- the slots hold the headers' fields
+fields-filled : (z : List ℕ) (hs : List Header) (old : List ℕ) → fieldsIn z (length hs) (flat hs ++ old) ≡ fieldsOf z hs
+unfolding flat
+fields-filled z [] old = refl
+fields-filled z (h ∷ hs) old = ap (λ y. fieldOf z h ∷ y) (fields-filled z hs old)
+
+kept-behind : (hs : List Header) (old : List ℕ) → drop (length hs * 4) (filled hs old) ≡ drop (length hs * 4) old
+unfolding filled
+kept-behind hs old = drop-at (flat hs) (drop (length hs * 4) old) (length hs * 4) (length-flat hs)
+
+fields-in : (z : List ℕ) (hs : List Header) (old : List ℕ) → fieldsIn z (length hs) (filled hs old) ≡ fieldsOf z hs
+unfolding filled
+fields-in z hs old = fields-filled z hs (drop (length hs * 4) old)
+
+-- an answer tells how it ended, and what is known
+module _ {K : Type 0} where
+  same-got : (end : Passed) (k k′ : K) (hs hs′ : List Header) (q : ℕ) → _≡_ {A = Heads K} (tell end (k, hs)) (got (k′, hs′) q) → (end ≡ At q) × (k ≡ k′) × (hs ≡ hs′)
+  same-got (At p) k k′ hs hs′ q e = let u : _≡_ {A = Known K} (k, hs) (k′, hs′) = cc in (cc, ap (λ y. y .0) u, ap (λ y. y .1) u)
+  same-got More k k′ hs hs′ q e = let n : _≡_ {A = ℕ} 0 1 = cc in absurd (omega arith)
+  same-got (Bad x) k k′ hs hs′ q e = let n : _≡_ {A = ℕ} 0 1 = cc in absurd (omega arith)
+
+  same-bad : (end : Passed) (k k′ : K) (hs hs′ : List Header) (x : Error) → _≡_ {A = Heads K} (tell end (k, hs)) (bad (x, (k′, hs′))) → (end ≡ Bad x) × (k ≡ k′) × (hs ≡ hs′)
+  same-bad (At p) k k′ hs hs′ q e = let n : _≡_ {A = ℕ} 0 1 = cc in absurd (omega arith)
+  same-bad More k k′ hs hs′ q e = let n : _≡_ {A = ℕ} 0 1 = cc in absurd (omega arith)
+  same-bad (Bad x) k k′ hs hs′ q e = let u : _≡_ {A = Error × Known K} (x, (k, hs)) (q, (k′, hs′)) = cc in (ap (λ y. Bad (y .0)) u, ap (λ y. y .1 .0) u, ap (λ y. y .1 .1) u)
+
+at-more : {q : ℕ} → At q ≡ More → ⊥
+at-more e = let n : _≡_ {A = ℕ} 0 1 = cc in omega arith
+
+bad-same : {x y : Error} → Bad x ≡ Bad y → x ≡ y
+bad-same e = cc
+
+bad-more : {x : Error} → Bad x ≡ More → ⊥
+bad-more e = let n : _≡_ {A = ℕ} 0 1 = cc in omega arith
+
+module _ {L K : Type 0} {Head : List ℕ → L → List Field → Type 0} {Says : List ℕ → K → L → Type 0} {s old : List ℕ} {end : Passed} {line : K} {count : ℕ} {new : List ℕ} {read : List ℕ → Heads K} (X : Exactly Head Says (length old / 4) read) (T : Told (read s) end line count old new) where
+  -- the slots hold what the reader has given
+  in-slots : fieldsIn s count new ≡ fieldsOf s (given (read s))
+  in-slots = ap (λ y. fieldsIn s y new) (T .count-is) ∙ ap (fieldsIn s (length (given (read s)))) (T .slots) ∙ fields-in s (given (read s)) old
+
+  -- how the call ended says what the reader answered
+  read-got : (q : ℕ) → end ≡ At q → read s ≡ got (line, given (read s)) q
+  read-got q e = sym (T .answer) ∙ ap (λ y. tell y (line, given (read s))) e
+
+  read-bad : (x : Error) → end ≡ Bad x → read s ≡ bad (x, (line, given (read s)))
+  read-bad x e = sym (T .answer) ∙ ap (λ y. tell y (line, given (read s))) e
+
+  completes : (q : ℕ) → end ≡ At q → HeadAt Head Says s q line (fieldsIn s count new)
+  completes q e =
+      let F = X .sound s line (given (read s)) q (read-got q e) in
+      record { bytes = F .w; rest = F .rest; said = F .l; whole = F .whole; end = F .place; head = subst (Head (F .w) (F .l)) (sym in-slots) (F .head); says = F .says }
+
+  accept : (w t : List ℕ) (l : L) (fs : List Field) → s ≡ w ++ t → Head w l fs → length fs ≤ length old / 4 → (end ≡ At (length w)) × Says s line l × (fieldsIn s count new ≡ fs)
+  accept w t l fs e h f =
+      let A = X .complete w t l fs h f in
+      let r : read s ≡ got (A .k, A .hs) (length w) = ap read e ∙ A .answers in
+      let u = same-got end line (A .k) (given (read s)) (A .hs) (length w) (T .answer ∙ r) in
+      (u .0, subst (λ y. Says y line l) (sym e) (subst (λ y. Says (w ++ t) y l) (sym (u .1)) (A .says)), in-slots ∙ ap (fieldsOf s) (u .2) ∙ ap (λ y. fieldsOf y (A .hs)) e ∙ A .holds)
+
+  overflow : (w t : List ℕ) (l : L) (fs : List Field) → s ≡ w ++ t → Head w l fs → length old / 4 < length fs → (end ≡ Bad TooManyHeaders) × Says s line l × (fieldsIn s count new ≡ take (length old / 4) fs)
+  overflow w t l fs e h f =
+      let A = X .too-many w t l fs h f in
+      let r : read s ≡ bad (TooManyHeaders, (A .k, A .hs)) = ap read e ∙ A .answers in
+      let u = same-bad end line (A .k) (given (read s)) (A .hs) TooManyHeaders (T .answer ∙ r) in
+      (u .0, subst (λ y. Says y line l) (sym e) (subst (λ y. Says (w ++ t) y l) (sym (u .1)) (A .says)), in-slots ∙ ap (fieldsOf s) (u .2) ∙ ap (λ y. fieldsOf y (A .hs)) e ∙ A .holds)
+
+  -- an error stays, and a head that fits would not be one
+  errs : (x : Error) → end ≡ Bad x → (u w t : List ℕ) (l : L) (fs : List Field) → s ++ u ≡ w ++ t → Head w l fs → length fs ≤ length old / 4 → ⊥
+  errs x e u w t l fs i h f =
+      let A = X .complete w t l fs h f in
+      let b : read (s ++ u) ≡ bad (x, (line, given (read s))) = X .stays s u (x, (line, given (read s))) (read-bad x e) in
+      let g : read (s ++ u) ≡ got (A .k, A .hs) (length w) = ap read i ∙ A .answers in
+      let c = sym b ∙ g in
+      let n : _≡_ {A = ℕ} 0 1 = cc in omega arith
+
+  errs-at-all : (x : Error) → end ≡ Bad x → (x ≡ TooManyHeaders → ⊥) → (u w t : List ℕ) (l : L) (fs : List Field) → s ++ u ≡ w ++ t → Head w l fs → ⊥
+  errs-at-all x e other u w t l fs i h = by (ltb (length old / 4) (length fs)) refl
+    where
+      by : (b : Bool) → ltb (length old / 4) (length fs) ≡ b → ⊥
+      by false f = errs x e u w t l fs i h (ltb-false (length old / 4) (length fs) f)
+      by true f =
+          let A = X .too-many w t l fs h (ltb-true (length old / 4) (length fs) f) in
+          let b : read (s ++ u) ≡ bad (x, (line, given (read s))) = X .stays s u (x, (line, given (read s))) (read-bad x e) in
+          let g : read (s ++ u) ≡ bad (TooManyHeaders, (A .k, A .hs)) = ap read i ∙ A .answers in
+          let v = same-bad (Bad x) line (A .k) (given (read s)) (A .hs) TooManyHeaders (sym b ∙ g) in
+          other (bad-same (v .0))
+
+  waits : end ≡ More → (w t : List ℕ) (l : L) (fs : List Field) → s ≡ w ++ t → Head w l fs → ⊥
+  waits e w t l fs i h = by (ltb (length old / 4) (length fs)) refl
+    where
+      by : (b : Bool) → ltb (length old / 4) (length fs) ≡ b → ⊥
+      by false f = at-more (sym (accept w t l fs i h (ltb-false (length old / 4) (length fs) f) .0) ∙ e)
+      by true f = bad-more (sym (overflow w t l fs i h (ltb-true (length old / 4) (length fs) f) .0) ∙ e)
+
+  pub kept : HeadPromise Head Says s old end line count new
+  kept = record {
+    complete = completes;
+    accepts = accept;
+    too-many = overflow;
+    error = errs;
+    error-at-all = errs-at-all;
+    incomplete = waits;
+    within = subst (λ y. y ≤ length old / 4) (sym (T .count-is)) (X .few s);
+    untouched = ap (λ y. drop (y * 4) new) (T .count-is) ∙ ap (drop (length (given (read s)) * 4)) (T .slots) ∙ kept-behind (given (read s)) old ∙ sym (ap (λ y. drop (y * 4) old) (T .count-is));
+  }

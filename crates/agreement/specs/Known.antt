@@ -1,0 +1,62 @@
+-- What a call has told of a start line, in the grammar's words.
+-- Assumes nothing.
+use Prim.Native.Nat.{ℕ, zero, suc}
+use mathlib.Core.Path.{_≡_}
+use mathlib.Core.List.{List, [], _∷_, _++_}
+use lib.ListN.{take, drop, getD}
+use Rattle.exact.specs.Exact.{Relation}
+use Rattle.rules.specs.Rules.{Rules}
+use Rattle.grammar.specs.Fields.{Field}
+use Rattle.grammar.specs.Message as grammar
+use Rattle.startline.specs.declared.KnownPiece.{KnownPiece}
+use Rattle.startline.specs.declared.KnownPiece.the-variants as pieces
+use Rattle.startline.specs.declared.KnownNumber.{KnownNumber}
+use Rattle.startline.specs.declared.KnownNumber.the-variants as numbers
+use Rattle.startline.specs.declared.RequestLine.{RequestLine}
+use Rattle.startline.specs.declared.StatusLine.{StatusLine}
+use Rattle.agreement.specs.Places.{held}
+
+-- a piece is known, and its bytes are these
+abbrev pub Holds : List ℕ → KnownPiece → List ℕ → Type 0
+Holds z (pieces.Is a) w = held z a ≡ w
+Holds z pieces.NotYet w = ⊥
+
+-- a number is known, and is this
+abbrev pub Counts : KnownNumber → ℕ → Type 0
+Counts (numbers.Is a) n = a ≡ n
+Counts numbers.NotYet n = ⊥
+
+-- of a version the minor number is told; the major one is 1
+pub record RequestSays (z : List ℕ) (k : RequestLine) (g : grammar.RequestLine) : Type 0 where
+  pub method : Holds z (k .method) (g .method)
+  pub target : Holds z (k .target) (g .target)
+  pub version : Counts (k .version) (g .version .minor)
+
+pub record StatusSays (z : List ℕ) (k : StatusLine) (g : grammar.StatusLine) : Type 0 where
+  pub version : Counts (k .version) (g .version .minor)
+  pub code : Counts (k .code) (g .code)
+  pub reason : Holds z (k .reason) (g .reason)
+
+-- the fields in the first count slots, four numbers each: where the name is, its length, where the value is, its length
+abbrev pub fieldsIn : List ℕ → ℕ → List ℕ → List Field
+fieldsIn z zero slots = []
+fieldsIn z (suc count) slots =
+    record { name = take (getD slots 1 0) (drop (getD slots 0 0) z); value = take (getD slots 3 0) (drop (getD slots 2 0) z) } ∷ fieldsIn z count (drop 4 slots)
+
+-- the bytes of a head up to its block, in the grammar's words
+pub record Started {L : Type 0} (r : Rules) (start-line : List ℕ → L → Type 0) (Says : L → Type 0) (w : List ℕ) : Type 0 where
+  pub e : List ℕ
+  pub l : List ℕ
+  pub c : List ℕ
+  pub g : L
+  pub whole : w ≡ e ++ l ++ c
+  pub empty : grammar.empty-lines r e
+  pub line : start-line l g
+  pub ends : grammar.line-end r c
+  pub says : Says g
+
+-- what is told of a start line
+pub record LineRead {L K : Type 0} (Says : List ℕ → K → L → Type 0) (G : Relation K) (z : List ℕ) (p : ℕ) (w : List ℕ) (l : L) (rest : List ℕ) : Type 0 where
+  pub k : K
+  pub reads : G p w k rest
+  pub says : Says z k l

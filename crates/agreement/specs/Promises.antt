@@ -1,0 +1,59 @@
+-- What each call's answer means, in the grammar's words alone, for every input s and all slots that are lent.
+-- Assumes nothing.
+use Prim.Native.Nat.{ℕ, _*_, _/_, _≤_, _<_}
+use mathlib.Core.Path.{_≡_}
+use mathlib.Core.List.{List, _++_}
+use lib.ListN.{length, take, drop}
+use Rattle.rules.specs.Rules.{default}
+use Rattle.grammar.specs.Fields.{Field}
+use Rattle.grammar.specs.Message.{header-block}
+use Rattle.grammar.specs.Chunked.{chunk-line}
+use Rattle.parts.specs.declared.Error.{Error}
+use Rattle.parts.specs.declared.Error.the-variants.{TooManyHeaders}
+use Rattle.parts.specs.declared.Passed.{Passed}
+use Rattle.parts.specs.declared.Passed.the-variants.{At, More, Bad}
+use Rattle.chunks.specs.declared.ChunkSize.{ChunkSize}
+use Rattle.chunks.specs.declared.ChunkSize.the-variants as sizes
+use Rattle.agreement.specs.Known.{fieldsIn}
+
+-- the first q bytes are a head, and what the call told and put into the slots are its fields
+pub record HeadAt {L K : Type 0} (Head : List ℕ → L → List Field → Type 0) (Says : List ℕ → K → L → Type 0) (s : List ℕ) (q : ℕ) (line : K) (fields : List Field) : Type 0 where
+  pub bytes : List ℕ
+  pub rest : List ℕ
+  pub said : L
+  pub whole : s ≡ bytes ++ rest
+  pub end : q ≡ length bytes
+  pub head : Head bytes said fields
+  pub says : Says s line said
+
+-- Head is what the grammar calls a head, Says is how the call tells a start line; old and new are the slots before and after
+pub record HeadPromise {L K : Type 0} (Head : List ℕ → L → List Field → Type 0) (Says : List ℕ → K → L → Type 0) (s old : List ℕ) (end : Passed) (line : K) (count : ℕ) (new : List ℕ) : Type 0 where
+  -- nothing else is accepted: complete at q means that a head ends there, and that the places given hold its fields
+  pub complete : (q : ℕ) → end ≡ At q → HeadAt Head Says s q line (fieldsIn s count new)
+  -- what is allowed is accepted: a head whose fields fit the slots, whatever follows it
+  pub accepts : (w t : List ℕ) (l : L) (fs : List Field) → s ≡ w ++ t → Head w l fs → length fs ≤ length old / 4 → (end ≡ At (length w)) × Says s line l × (fieldsIn s count new ≡ fs)
+  -- a head with more fields than slots is TooManyHeaders, and the fields that fit are given
+  pub too-many : (w t : List ℕ) (l : L) (fs : List Field) → s ≡ w ++ t → Head w l fs → length old / 4 < length fs → (end ≡ Bad TooManyHeaders) × Says s line l × (fieldsIn s count new ≡ take (length old / 4) fs)
+  -- an error means that no head that fits starts here, whatever bytes u follow
+  pub error : (e : Error) → end ≡ Bad e → (u w t : List ℕ) (l : L) (fs : List Field) → s ++ u ≡ w ++ t → Head w l fs → length fs ≤ length old / 4 → ⊥
+  -- an error other than TooManyHeaders means that no head starts here at all
+  pub error-at-all : (e : Error) → end ≡ Bad e → (e ≡ TooManyHeaders → ⊥) → (u w t : List ℕ) (l : L) (fs : List Field) → s ++ u ≡ w ++ t → Head w l fs → ⊥
+  -- incomplete means that no head has ended yet
+  pub incomplete : end ≡ More → (w t : List ℕ) (l : L) (fs : List Field) → s ≡ w ++ t → Head w l fs → ⊥
+  -- the count is within the slots, and those behind it are as they were
+  pub within : count ≤ length old / 4
+  pub untouched : drop (count * 4) new ≡ drop (count * 4) old
+
+-- headers alone have no start line
+abbrev pub block-alone : List ℕ → Unit {0} → List Field → Type 0
+block-alone w l fs = header-block default w fs
+
+abbrev pub says-nothing : List ℕ → Unit {0} → Unit {0} → Type 0
+says-nothing s k l = Unit {0}
+
+-- the same of a chunk size line
+pub record ChunkPromise (s : List ℕ) (r : ChunkSize) : Type 0 where
+  pub complete : (q n : ℕ) → r ≡ sizes.Complete q n → (w t : List ℕ) × (s ≡ w ++ t) × (q ≡ length w) × chunk-line default w n
+  pub accepts : (w t : List ℕ) (n : ℕ) → s ≡ w ++ t → chunk-line default w n → r ≡ sizes.Complete (length w) n
+  pub error : r ≡ sizes.Invalid → (u w t : List ℕ) (n : ℕ) → s ++ u ≡ w ++ t → chunk-line default w n → ⊥
+  pub incomplete : r ≡ sizes.Incomplete → (w t : List ℕ) (n : ℕ) → s ≡ w ++ t → chunk-line default w n → ⊥
