@@ -17,3 +17,4 @@ pub mod Exactly
 pub mod Promises
 pub mod Kept
 pub mod Calls
+pub mod Chunk
