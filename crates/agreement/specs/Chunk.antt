@@ -328,11 +328,11 @@ module _ {s : List ℕ} {r : ChunkSize} (T : sizeOf r ≡ chunk default s) where
     complete = λ q n e. let L = chunk-derived s n q (answered nothing _ (sym T ∙ ap sizeOf e)) in (L .w, L .rest, L .whole, L .place, L .line);
     accepts = λ w t n e l. size-got r (T ∙ ap (λ y. answer nothing (from (digits 0 0) 0 y)) e ∙ ap (answer nothing) (chunk-read l t));
     error = λ e u w t n i l.
-    let b : answer nothing (from (digits 0 0) 0 (s ++ u)) ≡ bad tt = bad-stays nothing (chunkStep default) s u (digits 0 0) 0 (sym T ∙ ap sizeOf e) in
-    let g : answer nothing (from (digits 0 0) 0 (s ++ u)) ≡ got n (length w) = ap (λ y. answer nothing (from (digits 0 0) 0 y)) i ∙ ap (answer nothing) (chunk-read l t) in
-    let c = sym b ∙ g in
-    let z : _≡_ {A = ℕ} 0 1 = cc in omega arith;
+        let b : answer nothing (from (digits 0 0) 0 (s ++ u)) ≡ bad tt = bad-stays nothing (chunkStep default) s u (digits 0 0) 0 (sym T ∙ ap sizeOf e) in
+        let g : answer nothing (from (digits 0 0) 0 (s ++ u)) ≡ got n (length w) = ap (λ y. answer nothing (from (digits 0 0) 0 y)) i ∙ ap (answer nothing) (chunk-read l t) in
+        let c = sym b ∙ g in
+        let z : _≡_ {A = ℕ} 0 1 = cc in omega arith;
     incomplete = λ e w t n i l.
-    let g : short tt ≡ got n (length w) = sym (ap sizeOf e) ∙ T ∙ ap (λ y. answer nothing (from (digits 0 0) 0 y)) i ∙ ap (answer nothing) (chunk-read l t) in
-    let z : _≡_ {A = ℕ} 0 1 = cc in omega arith;
+        let g : short tt ≡ got n (length w) = sym (ap sizeOf e) ∙ T ∙ ap (λ y. answer nothing (from (digits 0 0) 0 y)) i ∙ ap (answer nothing) (chunk-read l t) in
+        let z : _≡_ {A = ℕ} 0 1 = cc in omega arith;
   }

@@ -27,7 +27,7 @@ no-blank : (t u : Bool) → (t || u) ≡ true → t ≡ false → u ≡ true
 no-blank true u e h = absurd (false≢true (sym h))
 no-blank false u e h = e
 
-solid-is : {b : ℕ} → Solid b → field-vchar b
+pub solid-is : {b : ℕ} → Solid b → field-vchar b
 unfolding isValue
 solid-is {b} s = target-is-field-vchar b .0 (no-blank (isBlank b) (isTarget b) (s .value) (s .solid))
 
@@ -39,7 +39,7 @@ vchar-above : {b : ℕ} → field-vchar b → 0x21 ≤ b
 vchar-above (visible h) = h .low
 vchar-above (obsolete h) = omega (arith, h .low)
 
-is-solid : {b : ℕ} → field-vchar b → Solid b
+pub is-solid : {b : ℕ} → field-vchar b → Solid b
 is-solid {b} h = record { value = value-is-text b .1 (text.field h); solid = above-blank b (vchar-above h) }
 
 solid-value : {b : ℕ} → Solid b → In isValue b
@@ -65,7 +65,7 @@ value-core (fields.field-value.more {v = v} {w = w} c k) = joined (value-core k)
     joined (inl e) = inr (subst Core (sym (ap (λ y. v ++ y) e ∙ append-nil v)) (content-core c))
     joined (inr d) = inr (core-append (content-core c) d)
 
-core-value : {v : List ℕ} → Core v → field-value v
+pub core-value : {v : List ℕ} → Core v → field-value v
 core-value (one h) = fields.field-value.more (fields.one (solid-is h)) fields.none
 core-value (two h none l) = fields.field-value.more (fields.one (solid-is h)) (fields.field-value.more (fields.one (solid-is l)) fields.none)
 core-value (two {b = b} {c = c} h (more {b = x} {w = m} i k) l) =

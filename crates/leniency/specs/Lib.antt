@@ -1,0 +1,5 @@
+pub mod Strict
+pub mod Text
+pub mod Builders
+pub mod Examples
+pub mod Real

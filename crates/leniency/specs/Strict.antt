@@ -1,0 +1,117 @@
+-- What the RFCs' grammar derives the default reading derives, but for what the three named restrictions take away.
+-- Assumes nothing.
+use Prim.Native.Nat.{ℕ, _+_, _-_, _≤_}
+use native.Mathlib.Omega.{arith}
+use mathlib.Core.Path.{_≡_, refl, sym, ap, subst, _∙_}
+use mathlib.Core.Logic.{_⊎_, inl, inr}
+use mathlib.Core.List.{List, [], _∷_, _++_, append-assoc}
+use mathlib.Core.Bool.{true, false, false≢true}
+use lib.ListN.{length}
+use Rattle.octets.specs.Grammar.{DIGIT, HEXDIG, text}
+use Rattle.rules.specs.Rules.{Rules, strict, default}
+use Rattle.grammar.specs.Rows.{Many, none, more, Some, some}
+use Rattle.grammar.specs.Fields.{Field}
+use Rattle.grammar.specs.Message.{line-end, crlf, lf, empty-lines, Version, HTTP-version, one-zero, one-one, other, request-target, RequestLine, request-line, status-code, plain-text, reason-phrase, StatusLine, status-line, header-block, head, request-head, response-head}
+use Rattle.grammar.specs.Message as grammar
+use Rattle.grammar.specs.Chunked.{hexadecimal, chunk-size, behind-size, chunk-line}
+use Rattle.grammar.specs.Chunked as chunked
+
+-- the lines around a start line
+module _ {r s : Rules} (lf-too : r .lf-alone ≡ true → s .lf-alone ≡ true) where
+  line-end-as : {w : List ℕ} → line-end r w → line-end s w
+  line-end-as crlf = crlf
+  line-end-as (lf t) = lf (lf-too t)
+
+  block-as : {w : List ℕ} {fs : List Field} → header-block r w fs → header-block s w fs
+  block-as (grammar.header-block.end e) = grammar.header-block.end (line-end-as e)
+  block-as (grammar.header-block.field f e b) = grammar.header-block.field f (line-end-as e) (block-as b)
+
+  module _ (empty-too : r .empty-lines ≡ true → s .empty-lines ≡ true) where
+    empty-lines-as : {w : List ℕ} → empty-lines r w → empty-lines s w
+    empty-lines-as grammar.empty-lines.none = grammar.empty-lines.none
+    empty-lines-as (grammar.empty-lines.more t e k) = grammar.empty-lines.more (empty-too t) (line-end-as e) (empty-lines-as k)
+
+    head-as : {L : Type 0} {A B : List ℕ → L → Type 0} {w : List ℕ} {l : L} {fs : List Field} → ((v : List ℕ) → A v l → B v l) → head r A w l fs → head s B w l fs
+    head-as f (grammar.head.message {w = v} e l c b) = grammar.head.message (empty-lines-as e) (f v l) (line-end-as c) (block-as b)
+
+-- known-versions: 1.0 or 1.1
+abbrev pub Known : Version → Type 0
+Known v = (v ≡ record { major = 1; minor = 0 }) ⊎ (v ≡ record { major = 1; minor = 1 })
+
+never : {A : Type 0} → false ≡ true → A
+never e = absurd (false≢true e)
+
+digits-of : {a b : ℕ} (m n : ℕ) → DIGIT a → DIGIT b → a - 0x30 ≡ m → b - 0x30 ≡ n → (a ≡ 0x30 + m) × (b ≡ 0x30 + n)
+digits-of m n h k i j = (omega (arith, h .low, i), omega (arith, k .low, j))
+
+version-known : {w : List ℕ} {v : Version} → Known v → HTTP-version strict w v → HTTP-version default w v
+version-known k one-zero = one-zero
+version-known k one-one = one-one
+version-known (inl e) (other {a = a} {b = b} t x y) =
+    let d = digits-of 1 0 x y (ap (λ v. v .major) e) (ap (λ v. v .minor) e) in
+    rw (d .0, d .1) one-zero
+version-known (inr e) (other {a = a} {b = b} t x y) =
+    let d = digits-of 1 1 x y (ap (λ v. v .major) e) (ap (λ v. v .minor) e) in
+    rw (d .0, d .1) one-one
+
+target-too : {w : List ℕ} → request-target strict w → request-target default w
+target-too (grammar.request-target.visible k) = grammar.request-target.visible k
+target-too (grammar.request-target.any t k u) = never t
+
+code-too : {w : List ℕ} {n : ℕ} → status-code strict w n → status-code default w n
+code-too (grammar.status-code.class a b c) = grammar.status-code.class a b c
+code-too (grammar.status-code.any t a b c) = never t
+
+request-line-too : {l : RequestLine} → Known (l .version) → {w : List ℕ} → request-line strict w l → request-line default w l
+request-line-too k (grammar.request-line.line m t v) = grammar.request-line.line m (target-too t) (version-known k v)
+
+pub strict-request : {w : List ℕ} {l : RequestLine} {fs : List Field} → request-head strict w l fs → Known (l .version) → request-head default w l fs
+strict-request h k = head-as never never (λ v. request-line-too k) h
+
+-- obs-reason: a reason that is plain text
+some-plain : {w : List ℕ} → Some text w → Many plain-text w → Some plain-text w
+some-plain (some x k) (more y l) = some y l
+
+reason-too : {w g : List ℕ} → Many plain-text g → reason-phrase strict w g → reason-phrase default w g
+reason-too p (grammar.reason-phrase.plain k) = grammar.reason-phrase.plain k
+reason-too p (grammar.reason-phrase.whole t k) = grammar.reason-phrase.plain (some-plain k p)
+reason-too p (grammar.reason-phrase.emptied t k o l) = never t
+
+status-line-too : {l : StatusLine} → Known (l .version) → Many plain-text (l .reason) → {w : List ℕ} → status-line strict w l → status-line default w l
+status-line-too k p (grammar.status-line.reason v c x) = grammar.status-line.reason (version-known k v) (code-too c) (reason-too p x)
+status-line-too k p (grammar.status-line.no-reason v c) = grammar.status-line.no-reason (version-known k v) (code-too c)
+status-line-too k p (grammar.status-line.code-ends t v c) = never t
+
+pub strict-response : {w : List ℕ} {l : StatusLine} {fs : List Field} → response-head strict w l fs → Known (l .version) → Many plain-text (l .reason) → response-head default w l fs
+strict-response h k p = head-as never never (λ v. status-line-too k p) h
+
+pub strict-headers : {w : List ℕ} {fs : List Field} → header-block strict w fs → header-block default w fs
+strict-headers = block-as never
+
+-- sixteen-digits: no more than sixteen digits stand at the start
+abbrev pub Few : List ℕ → Type 0
+Few w = (s x : List ℕ) → w ≡ s ++ x → Many HEXDIG s → length s ≤ 16
+
+snoc : {c : ℕ → Type 0} {w : List ℕ} {b : ℕ} → Many c w → c b → Many c (w ++ (b ∷ []))
+snoc none x = more x none
+snoc (more y k) x = more y (snoc k x)
+
+pub hexadecimal-row : {w : List ℕ} {n : ℕ} → hexadecimal w n → Many HEXDIG w
+hexadecimal-row chunked.hexadecimal.none = none
+hexadecimal-row (chunked.hexadecimal.more h d) = snoc (hexadecimal-row h) d
+
+size-too : {s : List ℕ} {n : ℕ} → length s ≤ 16 → chunk-size strict s n → chunk-size default s n
+size-too f (chunked.chunk-size.digits h l g) = chunked.chunk-size.digits h l (λ _. f)
+size-too f (chunked.chunk-size.no-digit t) = never t
+
+size-row : {s : List ℕ} {n : ℕ} → chunk-size strict s n → Many HEXDIG s
+size-row (chunked.chunk-size.digits h l g) = hexadecimal-row h
+size-row (chunked.chunk-size.no-digit t) = never t
+
+behind-too : {w : List ℕ} → behind-size strict w → behind-size default w
+behind-too (chunked.behind-size.extension x) = chunked.behind-size.extension x
+behind-too (chunked.behind-size.blanks t o) = never t
+behind-too (chunked.behind-size.any t o w) = never t
+
+pub strict-chunk : {w : List ℕ} {n : ℕ} → chunk-line strict w n → Few w → chunk-line default w n
+strict-chunk (chunked.chunk-line.line {s = s} {x = x} k b) f = chunked.chunk-line.line (size-too (f s (x ++ (0x0D ∷ 0x0A ∷ [])) (append-assoc s x (0x0D ∷ 0x0A ∷ [])) (size-row k)) k) (behind-too b)
