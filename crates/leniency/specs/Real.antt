@@ -65,8 +65,8 @@ no-lf f (grammar.header-block.end crlf) e = let q : _≡_ {A = ℕ} 13 10 = cc i
 no-lf f (grammar.header-block.end (lf t)) e = clash t f
 no-lf f (grammar.header-block.field (grammar.field-line.line (some {b = b} h k) o v t) d x) e = let q : b ≡ 10 = cc in no-token {c = 10} refl h q
 
-pub lf-alone : Real (λ r. r .lf-alone) (Headers (ascii "\n"))
-lf-alone = (λ r t. ([], grammar.header-block.end (lf t)), λ r f d. no-lf f (d .1) refl)
+pub lf-alone-real : Real (λ r. r .lf-alone) (Headers (ascii "\n"))
+lf-alone-real = (λ r t. ([], grammar.header-block.end (lf t)), λ r f d. no-lf f (d .1) refl)
 
 -- a status line byte by byte, up to its code
 record Shape (r : Rules) (w : List ℕ) (l : StatusLine) : Type 0 where
