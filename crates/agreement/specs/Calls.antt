@@ -21,10 +21,10 @@ use Rattle.fields.specs.declared.Block.{Block}
 use Rattle.fields.specs.Slots.{filled}
 use Rattle.fields.specs.Block.{Blocks, blockStep, block}
 use Rattle.fields.specs.Block as blocks
-use Rattle.startline.specs.declared.RequestLine.{RequestLine}
-use Rattle.startline.specs.declared.StatusLine.{StatusLine}
-use Rattle.startline.specs.RequestLine as requests
-use Rattle.startline.specs.StatusLine as statuses
+use Rattle.requestline.specs.declared.RequestLine.{RequestLine}
+use Rattle.statusline.specs.declared.StatusLine.{StatusLine}
+use Rattle.requestline.specs.RequestLine as requests
+use Rattle.statusline.specs.StatusLine as statuses
 use Rattle.startline.specs.Answers.{tell}
 use Rattle.heads.specs.Head.{Heads, Known, over, given, Told}
 use Rattle.heads.specs.Calls.{request, response}

@@ -14,10 +14,10 @@ use Rattle.rules.specs.Rules.{Rules}
 use Rattle.parts.specs.EmptyLines.{start}
 use Rattle.fields.specs.declared.Header.{Header}
 use Rattle.fields.specs.Block.{blockStep}
-use Rattle.startline.specs.declared.RequestLine.{RequestLine}
-use Rattle.startline.specs.declared.StatusLine.{StatusLine}
-use Rattle.startline.specs.RequestLine as request
-use Rattle.startline.specs.StatusLine as response
+use Rattle.requestline.specs.declared.RequestLine.{RequestLine}
+use Rattle.statusline.specs.declared.StatusLine.{StatusLine}
+use Rattle.requestline.specs.RequestLine as request
+use Rattle.statusline.specs.StatusLine as response
 use Rattle.heads.specs.Head.{Known, blockOn, headStep}
 use Rattle.agreement.specs.Block.{Blocked, exact-block}
 use Rattle.agreement.specs.StartLine.{RequestLined, exact-request-line, StatusLined, exact-status-line}

@@ -12,8 +12,8 @@ use Rattle.startline.specs.declared.KnownPiece.{KnownPiece}
 use Rattle.startline.specs.declared.KnownPiece.the-variants as pieces
 use Rattle.startline.specs.declared.KnownNumber.{KnownNumber}
 use Rattle.startline.specs.declared.KnownNumber.the-variants as numbers
-use Rattle.startline.specs.declared.RequestLine.{RequestLine}
-use Rattle.startline.specs.declared.StatusLine.{StatusLine}
+use Rattle.requestline.specs.declared.RequestLine.{RequestLine}
+use Rattle.statusline.specs.declared.StatusLine.{StatusLine}
 use Rattle.agreement.specs.Places.{held}
 
 -- a piece is known, and its bytes are these

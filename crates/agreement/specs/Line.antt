@@ -21,7 +21,7 @@ use Rattle.parts.specs.declared.Piece.{Piece}
 use Rattle.rules.specs.Rules.{Rules}
 use Rattle.parts.specs.LineEnd.{begin, lineEndStep}
 use Rattle.words.specs.Word.{none, wordStep}
-use Rattle.fields.specs.Value.{blanks, valueStep}
+use Rattle.values.specs.Value.{blanks, valueStep}
 use Rattle.fields.specs.Line.{Kind, header, end, named, fieldStep, ends, lineStep}
 use Rattle.leaves.specs.LineEnd.{EndsAt, exact-line-end}
 use Rattle.leaves.specs.Word.{Worded, exact-word}

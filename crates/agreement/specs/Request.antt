@@ -14,9 +14,9 @@ use Rattle.grammar.specs.Message.{space, empty-lines, line-end, request-line}
 use Rattle.grammar.specs.Message as grammar
 use Rattle.parts.specs.declared.Piece.{Piece}
 use Rattle.parts.specs.Answers.{piece}
-use Rattle.status.specs.Version.{name}
-use Rattle.startline.specs.declared.RequestLine.{RequestLine}
-use Rattle.startline.specs.RequestLine.{unread, withMethod, withTarget, withVersion}
+use Rattle.versions.specs.Version.{name}
+use Rattle.requestline.specs.declared.RequestLine.{RequestLine}
+use Rattle.requestline.specs.RequestLine.{unread, withMethod, withTarget, withVersion}
 use Rattle.leaves.specs.EmptyLines.{EmptiesAt, Stops}
 use Rattle.leaves.specs.Word.{Worded}
 use Rattle.leaves.specs.Target.{Targeted}

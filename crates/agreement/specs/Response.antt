@@ -9,8 +9,8 @@ use Rattle.rules.specs.Rules.{Rules}
 use Rattle.grammar.specs.Message.{space, empty-lines, line-end, Version, HTTP-version, one-zero, one-one, status-line}
 use Rattle.grammar.specs.Message as grammar
 use Rattle.parts.specs.declared.Piece.{Piece}
-use Rattle.startline.specs.declared.StatusLine.{StatusLine}
-use Rattle.startline.specs.StatusLine.{unread, withVersion, withCode, withReason}
+use Rattle.statusline.specs.declared.StatusLine.{StatusLine}
+use Rattle.statusline.specs.StatusLine.{unread, withVersion, withCode, withReason}
 use Rattle.leaves.specs.EmptyLines.{Stops}
 use Rattle.leaves.specs.Status.{Spaced}
 use Rattle.leaves.specs.Status as statuses

@@ -22,16 +22,16 @@ use Rattle.words.specs.Word.{wordStep}
 use Rattle.words.specs.Word as words
 use Rattle.words.specs.Target.{targetStep}
 use Rattle.words.specs.Target as targets
-use Rattle.status.specs.Version.{name, versionStep}
-use Rattle.status.specs.Space.{spaceStep, behindCodeStep}
+use Rattle.versions.specs.Version.{name, versionStep}
+use Rattle.spaces.specs.Space.{spaceStep, behindCodeStep}
 use Rattle.status.specs.Code.{codeStep}
 use Rattle.status.specs.Code as codes
 use Rattle.status.specs.Reason.{reasonStep}
 use Rattle.status.specs.Reason as reasons
-use Rattle.startline.specs.declared.RequestLine.{RequestLine}
-use Rattle.startline.specs.declared.StatusLine.{StatusLine}
-use Rattle.startline.specs.RequestLine as request
-use Rattle.startline.specs.StatusLine as response
+use Rattle.requestline.specs.declared.RequestLine.{RequestLine}
+use Rattle.statusline.specs.declared.StatusLine.{StatusLine}
+use Rattle.requestline.specs.RequestLine as request
+use Rattle.statusline.specs.StatusLine as response
 use Rattle.leaves.specs.LineEnd.{EndsAt, exact-line-end}
 use Rattle.leaves.specs.EmptyLines.{EmptiesAt, exact-empties}
 use Rattle.leaves.specs.Word.{Worded, exact-word}

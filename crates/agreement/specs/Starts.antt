@@ -19,7 +19,7 @@ use Rattle.rules.specs.Rules.{Rules}
 use Rattle.grammar.specs.Rows.{Many, none, more, Some, some}
 use Rattle.grammar.specs.Message.{Version, HTTP-version, one-zero, one-one, request-target, status-code, plain-text, reason-phrase}
 use Rattle.grammar.specs.Message as grammar
-use Rattle.status.specs.Version.{name}
+use Rattle.versions.specs.Version.{name}
 use Rattle.status.specs.Code.{onto}
 use Rattle.leaves.specs.Rows.{In}
 use Rattle.leaves.specs.Version.{Digit, zero-digit, one-digit}

@@ -28,7 +28,7 @@ use Rattle.fields.specs.declared.Header.{Header}
 use Rattle.fields.specs.declared.Line.{Line}
 use Rattle.fields.specs.declared.Line.the-variants as lines
 use Rattle.fields.specs.declared.Block.{Block}
-use Rattle.fields.specs.Value.{Value, blanks}
+use Rattle.values.specs.Value.{Value, blanks}
 use Rattle.fields.specs.Line.{Kind, header, end, LineState, lineStep, line, lineOf}
 use Rattle.fields.specs.Slots.{numbers, filled, filled-none, filled-more}
 

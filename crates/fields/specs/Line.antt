@@ -22,7 +22,7 @@ use Rattle.words.specs.Word.{Word, none, wordStep, word}
 use Rattle.fields.specs.declared.Header.{Header}
 use Rattle.fields.specs.declared.Line.{Line}
 use Rattle.fields.specs.declared.Line.the-variants as lines
-use Rattle.fields.specs.Value.{Value, blanks, valueStep, value}
+use Rattle.values.specs.Value.{Value, blanks, valueStep, value}
 
 -- what a line is
 pub data Kind : Type 0 where

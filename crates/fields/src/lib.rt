@@ -7,49 +7,12 @@ ghost use Rattle.reader.specs.Chain.{ended};
 ghost use Rattle.parts.specs.declared.Error.the-variants.{NewLine};
 ghost use Rattle.rules.specs.Rules.{default};
 ghost use Rattle.parts.specs.LineEnd.{lineEnd};
-ghost use Rattle.parts.specs.Answers.{found as foundOf};
-ghost use Rattle.fields.specs.Trim.{Trimmed};
-ghost use Rattle.fields.specs.Value.{value as valueAt};
 ghost use Rattle.fields.specs.Block.{block as blockAt, Told};
 ghost use Rattle.fields.specs.Line.{header as headerOf, end as endOf, line as lineAt, lastly, onward, lineOf};
 use parts::Error;
 use parts::Found;
 use parts::Passed;
 use parts::Piece;
-
-// The end of s[from..end] with the blanks at its end cut off.
-fn trim(s: &[u8], from: usize, end: usize) -> usize
-    requires { ⌜ (from ≤ end) × (end ≤ length (now s)) ⌝ }
-    ensures { λ r. ⌜ Trimmed (now (s .entry)) from end r ⌝ }
-{
-    let mut i = end;
-    while from < i {
-        if !octets::is_blank(s[i - 1]) {
-            return i;
-        }
-        i -= 1;
-    }
-    i
-}
-
-// A value without the blanks around it, up to the first byte that can't stand in one.
-pub fn value(s: &[u8], at: usize) -> Found
-    ensures { λ r. ⌜ foundOf r ≡ valueAt (now (s .entry)) at ⌝ }
-{
-    let start = skips::skip_blank(s, at);
-    let stop = skips::skip_value(s, start);
-    if s.len() <= stop {
-        return Found::More;
-    }
-    let end = trim(s, start, stop);
-    Found::At(
-        Piece {
-            offset: start,
-            length: end - start,
-        },
-        stop,
-    )
-}
 
 pub struct Header {
     pub name: Piece,
@@ -80,7 +43,7 @@ fn header_end(s: &[u8], header: Header, at: usize) -> Line
 fn header_value(s: &[u8], name: Piece, at: usize) -> Line
     ensures { λ r. ⌜ lineOf r ≡ onward name (now (s .entry)) at ⌝ }
 {
-    let found = value(s, at);
+    let found = values::value(s, at);
     match found {
         Found::At(value, next) => header_end(s, Header { name, value }, next),
         Found::More => Line::More,

@@ -6,9 +6,9 @@ use arguments::Call;
 use input::Input;
 use libc::STDERR_FILENO;
 use libc::STDOUT_FILENO;
-use report::place::part;
-use report::reading::Kind;
-use report::text::Page;
+use page::place::part;
+use page::text::Page;
+use reading::Kind;
 
 fn main() {
     let call = arguments::asked();

@@ -82,7 +82,7 @@ pub extern "C" fn hr_request(
     out: &mut [usize; 8],
     settings: u32,
 ) -> u32 {
-    let head = heads::request(buf, slots);
+    let head = calls::request(buf, slots);
     let end = head.end;
     let line = head.line;
     let method = line.method;
@@ -120,7 +120,7 @@ pub extern "C" fn hr_response(
     out: &mut [usize; 8],
     settings: u32,
 ) -> u32 {
-    let head = heads::response(buf, slots);
+    let head = calls::response(buf, slots);
     let end = head.end;
     let line = head.line;
     let version = line.version;
@@ -150,7 +150,7 @@ fn clear(out: &mut [usize; 8]) {
 
 #[no_mangle]
 pub extern "C" fn hr_headers(buf: &[u8], slots: &mut [usize], out: &mut [usize; 8]) -> u32 {
-    let block = heads::headers(buf, slots);
+    let block = calls::headers(buf, slots);
     let end = block.end;
     out[0] = position(end);
     out[1] = block.count;
@@ -183,7 +183,7 @@ fn told(size: ChunkSize) -> SizeLine {
 
 #[no_mangle]
 pub extern "C" fn hr_chunk_size(buf: &[u8], out: &mut [usize; 8]) -> u32 {
-    let line = told(chunks::chunk_size(buf));
+    let line = told(calls::chunk_size(buf));
     out[0] = line.end;
     out[1] = line.size as usize;
     clear(out);

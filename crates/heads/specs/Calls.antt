@@ -7,12 +7,12 @@ use Rattle.reader.specs.Seq.{first}
 use Rattle.parts.specs.declared.Passed.{Passed}
 use Rattle.rules.specs.Rules.{Rules, default}
 use Rattle.parts.specs.EmptyLines.{start}
-use Rattle.startline.specs.declared.RequestLine.{RequestLine}
-use Rattle.startline.specs.declared.StatusLine.{StatusLine}
-use Rattle.startline.specs.RequestLine.{requestLineStep, requestLine}
-use Rattle.startline.specs.RequestLine as requests
-use Rattle.startline.specs.StatusLine.{statusLineStep, statusLine}
-use Rattle.startline.specs.StatusLine as statuses
+use Rattle.requestline.specs.declared.RequestLine.{RequestLine}
+use Rattle.statusline.specs.declared.StatusLine.{StatusLine}
+use Rattle.requestline.specs.RequestLine.{requestLineStep, requestLine}
+use Rattle.requestline.specs.RequestLine as requests
+use Rattle.statusline.specs.StatusLine.{statusLineStep, statusLine}
+use Rattle.statusline.specs.StatusLine as statuses
 use Rattle.fields.specs.Block.{block}
 use Rattle.heads.specs.Head.{Heads, head, over, headed, head-parts, Told, head-block, head-more, head-bad}
 

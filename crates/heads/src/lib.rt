@@ -8,8 +8,8 @@ ghost use Rattle.heads.specs.Head.{Told};
 ghost use Rattle.heads.specs.Calls.{request as requestOf, response as responseOf};
 use fields::Block;
 use parts::Passed;
-use startline::RequestLine;
-use startline::StatusLine;
+use requestline::RequestLine;
+use statusline::StatusLine;
 
 // What reading a request comes to, what is known of its first line, and how many headers are in the slots.
 pub struct RequestHead {
@@ -29,7 +29,7 @@ pub struct ResponseHead {
 pub fn request(s: &[u8], slots: &mut [usize]) -> RequestHead
     ensures { λ r. ⌜ Told (requestOf default (length (now (slots .entry)) / 4) (now (s .entry))) (r .end) (r .line) (r .count) (now (slots .entry)) (now (slots .exit)) ⌝ }
 {
-    let read = startline::request_line(s);
+    let read = requestline::request_line(s);
     let line = read.line;
     let end = read.end;
     match end {
@@ -58,7 +58,7 @@ pub fn request(s: &[u8], slots: &mut [usize]) -> RequestHead
 pub fn response(s: &[u8], slots: &mut [usize]) -> ResponseHead
     ensures { λ r. ⌜ Told (responseOf default (length (now (slots .entry)) / 4) (now (s .entry))) (r .end) (r .line) (r .count) (now (slots .entry)) (now (slots .exit)) ⌝ }
 {
-    let read = startline::status_line(s);
+    let read = statusline::status_line(s);
     let line = read.line;
     let end = read.end;
     match end {

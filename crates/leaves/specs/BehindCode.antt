@@ -12,7 +12,7 @@ use Rattle.reader.specs.Machine.{Move, Run, gave, Step, after, run}
 use Rattle.exact.specs.Exact.{Relation, Part, Exact}
 use Rattle.parts.specs.declared.Error.{Error}
 use Rattle.rules.specs.Rules.{Rules}
-use Rattle.status.specs.Space.{behindCodeStep}
+use Rattle.spaces.specs.Space.{behindCodeStep}
 use Rattle.leaves.specs.Rows.{split, both-true}
 
 pub data Behind (r : Rules) (p : ℕ) : List ℕ → Unit {0} → List ℕ → Type 0 where

@@ -12,7 +12,7 @@ use Rattle.reader.specs.Machine.{Run, gave, Step, after, run}
 use Rattle.exact.specs.Exact.{Relation, Part, Exact}
 use Rattle.octets.specs.Class.{isDigit}
 use Rattle.parts.specs.declared.Error.{Error}
-use Rattle.status.specs.Space.{spaceStep}
+use Rattle.spaces.specs.Space.{spaceStep}
 use Rattle.status.specs.Code.{Code, none, one, two, onto, codeStep}
 use Rattle.leaves.specs.Rows.{In, split}
 

@@ -12,7 +12,7 @@ use Rattle.octets.specs.Class.{isBlank, isTarget, isValue}
 use Rattle.parts.specs.declared.Error.{Error}
 use Rattle.parts.specs.declared.Piece.{Piece}
 use Rattle.parts.specs.Answers.{piece}
-use Rattle.fields.specs.Value.{Value, blanks, inside, valueStep}
+use Rattle.values.specs.Value.{Value, blanks, inside, valueStep}
 use Rattle.grammar.specs.Rows.{Many, none, more}
 use Rattle.leaves.specs.Rows.{In, split}
 

@@ -11,7 +11,7 @@ use borrow.Author.Tests.{eqb-true, eq-eqb}
 use Rattle.reader.specs.Machine.{Run, gave, give, Step, after, run}
 use Rattle.exact.specs.Exact.{Relation, Part, Exact}
 use Rattle.parts.specs.declared.Error.{Error}
-use Rattle.status.specs.Version.{name, versionStep}
+use Rattle.versions.specs.Version.{name, versionStep}
 use Rattle.leaves.specs.Rows.{split}
 
 -- what is left of a name, and a digit

@@ -1,17 +1,14 @@
 // The report on an input: an answer, told to a person or to a script, and the rows of what was found.
-pub mod place;
-pub mod reading;
 mod rows;
-pub mod text;
-mod words;
 
-use crate::reading::Answer;
-use crate::reading::Fault;
-use crate::reading::Kind;
-use crate::text::Page;
-use crate::text::fill;
-use crate::text::put;
-use crate::text::row;
+use page::place;
+use page::text::Page;
+use page::text::fill;
+use page::text::put;
+use page::text::row;
+use reading::Answer;
+use reading::Fault;
+use reading::Kind;
 
 // Answers how long the report is, or a number above the page's length where it has no room.
 pub fn report(page: &mut Page, kind: Kind, raw: bool, s: &[u8]) -> usize {
@@ -41,7 +38,7 @@ fn for_script(page: &mut Page, kind: Kind, answer: Answer, s: &[u8]) -> usize {
         }
         Answer::Wrong(fault) => {
             let next = put(page, 0, b"answer\terror\t");
-            let next = words::name(page, next, fault);
+            let next = wording::name(page, next, fault);
             let next = put(page, next, b"\n");
             stop_rows(page, next, kind, s)
         }
@@ -73,7 +70,7 @@ fn for_person(page: &mut Page, kind: Kind, answer: Answer, s: &[u8]) -> usize {
 
 fn complete(page: &mut Page, kind: Kind, end: usize, all: usize) -> usize {
     let next = put(page, 0, b"complete: ");
-    let next = words::subject(page, next, kind);
+    let next = wording::subject(page, next, kind);
     fill(page, next, b" is the first # of # bytes\n", end, all)
 }
 
@@ -81,7 +78,7 @@ fn incomplete(page: &mut Page, kind: Kind, s: &[u8]) -> usize {
     let next = put(page, 0, b"incomplete");
     let next = stop(page, next, kind, s);
     let next = put(page, next, b"  wrong: the input ends before ");
-    let next = words::subject(page, next, kind);
+    let next = wording::subject(page, next, kind);
     put(
         page,
         next,
@@ -94,9 +91,9 @@ fn incomplete(page: &mut Page, kind: Kind, s: &[u8]) -> usize {
 
 fn wrong(page: &mut Page, kind: Kind, fault: Fault, s: &[u8]) -> usize {
     let next = put(page, 0, b"error ");
-    let next = words::name(page, next, fault);
+    let next = wording::name(page, next, fault);
     let next = stop(page, next, kind, s);
-    words::advice(page, next, fault)
+    wording::advice(page, next, fault)
 }
 
 // Where the reading stopped, and the line that it stopped in.

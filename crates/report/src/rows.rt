@@ -1,16 +1,16 @@
 // The rows of a report: one a field, with tabs between its parts.
 ghost use Prim.Native.Nat.{_<_};
-use crate::place;
-use crate::reading::First;
-use crate::reading::MOST_HEADERS;
-use crate::reading::Slots;
-use crate::text::Page;
-use crate::text::fill;
-use crate::text::row;
+use page::place;
+use page::text::Page;
+use page::text::fill;
+use page::text::row;
+use reading::First;
+use reading::MOST_HEADERS;
+use reading::Slots;
+use requestline::RequestLine;
 use startline::KnownNumber;
 use startline::KnownPiece;
-use startline::RequestLine;
-use startline::StatusLine;
+use statusline::StatusLine;
 
 // What the first line tells.
 pub fn first_line(page: &mut Page, at: usize, raw: bool, s: &[u8], first: First) -> usize {

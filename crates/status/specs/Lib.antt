@@ -1,4 +1,2 @@
-pub mod Version
-pub mod Space
 pub mod Code
 pub mod Reason

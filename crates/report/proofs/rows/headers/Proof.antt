@@ -1,4 +1,4 @@
--- `headread::rows::headers` is safe and ends: there are at most 100 headers.
+-- `report::rows::headers` is safe and ends: there are at most 100 headers.
 -- Assumes nothing.
 use Prim.Native.Nat.{_-_}
 use borrow.Author.Needs.{needs}

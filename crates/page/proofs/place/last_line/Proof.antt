@@ -1,0 +1,30 @@
+-- `page::place::last_line` is safe and ends: there are no more line ends than bytes.
+-- Assumes nothing.
+use Prim.Native.Nat.{_-_, _+_, _≤_}
+use borrow.Author.Needs.{needs}
+use native.Mathlib.Omega.{arith}
+use mathlib.Core.Logic.{⊎-elim}
+use lib.ListN.{length}
+use Rattle.page.proofs.place.last_line.Statement.{statement}
+use Rattle.page.proofs.place.last_line.Tie as tie
+
+abbrev Inv-loop : tie.InvT-loop
+Inv-loop s number₀ start₀ i₀ number start i = (i ≤ length s) × (number ≤ i + 1)
+
+abbrev μ-loop : tie.MeasureT-loop
+μ-loop s number₀ start₀ i₀ number start i = length s - i
+
+pub last-line-spec : {M : Type 1} → statement M
+last-line-spec =
+    tie.close
+    (tie.spec
+    Inv-loop
+    μ-loop
+    (λ c. search needs)
+    (λ c. search needs)
+    (λ c. search needs)
+    (λ c. search needs)
+    (λ c. search needs)
+    (λ c. search needs)
+    (λ c. ⊎-elim (λ w. omega arith) (λ w. omega arith) (c .if1 .came))
+    (λ c. search needs))

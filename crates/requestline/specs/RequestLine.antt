@@ -1,0 +1,119 @@
+-- The start of a request: empty lines, then a request line, method SP target SP version and the line's end (RFC 9112, 3).
+-- Assumes nothing.
+use Prim.Native.Nat.{ℕ}
+use mathlib.Core.Path.{_≡_, sym, _∙_}
+use mathlib.Core.List.{List}
+use Rattle.reader.specs.Machine.{Step, runAt}
+use Rattle.reader.specs.Seq.{Then, first, seq}
+use Rattle.reader.specs.Answer.{Answer, answer, either}
+use Rattle.reader.specs.Chain.{part, last, chain, chain-same, answer-last, answer-chain}
+use Rattle.octets.specs.Class.{isToken}
+use Rattle.parts.specs.declared.Error.{Error}
+use Rattle.parts.specs.declared.Error.the-variants.{NewLine, Token}
+use Rattle.parts.specs.declared.Piece.{Piece}
+use Rattle.rules.specs.Rules.{Rules, default}
+use Rattle.parts.specs.LineEnd.{LineEnd, begin, lineEndStep, lineEnd}
+use Rattle.parts.specs.EmptyLines.{EmptyLines, start, emptyLinesStep, emptyLines}
+use Rattle.words.specs.Word.{Word, wordStep, word}
+use Rattle.words.specs.Word as words
+use Rattle.words.specs.Target.{Target, targetStep, target}
+use Rattle.words.specs.Target as targets
+use Rattle.versions.specs.Version.{name, versionStep, version}
+use Rattle.requestline.specs.declared.RequestLine.{RequestLine}
+use Rattle.startline.specs.declared.KnownPiece.the-variants as pieces
+use Rattle.startline.specs.declared.KnownNumber.the-variants as numbers
+
+-- what each part adds to what is known
+abbrev pub unread : RequestLine
+unread = record { method = pieces.NotYet; target = pieces.NotYet; version = numbers.NotYet }
+
+abbrev pub withMethod : RequestLine → Piece → RequestLine
+withMethod k m = record { method = pieces.Is m; target = k .target; version = k .version }
+
+abbrev pub withTarget : RequestLine → Piece → RequestLine
+withTarget k t = record { method = k .method; target = pieces.Is t; version = k .version }
+
+abbrev pub withVersion : RequestLine → ℕ → RequestLine
+withVersion k v = record { method = k .method; target = k .target; version = numbers.Is v }
+
+abbrev pub Line : Type 0 → Type 0
+Line S = Step S RequestLine (Error × RequestLine)
+
+-- the line, from its last part to its first
+module _ (r : Rules) where
+  abbrev pub endStep : RequestLine → Line LineEnd
+  endStep k = part k (λ _. k) (lineEndStep r NewLine)
+
+  abbrev pub versionOn : RequestLine → Line (Then (List ℕ) RequestLine LineEnd)
+  versionOn k = seq (part k (withVersion k) versionStep) (λ _. begin) endStep
+
+  abbrev pub targetOn : RequestLine → Line (Then Target RequestLine (Then (List ℕ) RequestLine LineEnd))
+  targetOn k = seq (part k (withTarget k) targetStep) (λ _. first name) versionOn
+
+  abbrev pub methodOn : RequestLine → Line (Then Word RequestLine (Then Target RequestLine (Then (List ℕ) RequestLine LineEnd)))
+  methodOn k = seq (part k (withMethod k) (wordStep isToken 32 Token)) (λ _. first targets.none) targetOn
+
+  abbrev pub requestLineStep : Line (Then EmptyLines RequestLine (Then Word RequestLine (Then Target RequestLine (Then (List ℕ) RequestLine LineEnd))))
+  requestLineStep = seq (part unread (λ _. unread) (emptyLinesStep r)) (λ _. first words.none) methodOn
+
+-- what is known in each state
+abbrev pub endKnown : RequestLine → LineEnd → RequestLine
+endKnown k _ = k
+
+abbrev pub versionKnown : RequestLine → Then (List ℕ) RequestLine LineEnd → RequestLine
+versionKnown k = either (λ _. k) endKnown
+
+abbrev pub targetKnown : RequestLine → Then Target RequestLine (Then (List ℕ) RequestLine LineEnd) → RequestLine
+targetKnown k = either (λ _. k) versionKnown
+
+abbrev pub methodKnown : RequestLine → Then Word RequestLine (Then Target RequestLine (Then (List ℕ) RequestLine LineEnd)) → RequestLine
+methodKnown k = either (λ _. k) targetKnown
+
+abbrev pub lineKnown : Then EmptyLines RequestLine (Then Word RequestLine (Then Target RequestLine (Then (List ℕ) RequestLine LineEnd))) → RequestLine
+lineKnown = either (λ _. unread) methodKnown
+
+abbrev pub requestLine : Rules → List ℕ → ℕ → Answer RequestLine RequestLine (Error × RequestLine)
+requestLine r xs at = answer lineKnown (runAt (requestLineStep r) (first start) xs at)
+
+-- the same by its parts
+module _ (r : Rules) (xs : List ℕ) where
+  abbrev pub fromEnd : RequestLine → ℕ → Answer RequestLine RequestLine (Error × RequestLine)
+  fromEnd k q = last k (λ _. k) (lineEnd r NewLine xs q)
+
+  abbrev pub fromVersion : RequestLine → ℕ → Answer RequestLine RequestLine (Error × RequestLine)
+  fromVersion k q = chain k (withVersion k) (version xs q) fromEnd
+
+  abbrev pub fromTarget : RequestLine → ℕ → Answer RequestLine RequestLine (Error × RequestLine)
+  fromTarget k q = chain k (withTarget k) (target xs q) fromVersion
+
+  abbrev pub fromMethod : RequestLine → ℕ → Answer RequestLine RequestLine (Error × RequestLine)
+  fromMethod k q = chain k (withMethod k) (word isToken 32 Token xs q) fromTarget
+
+  abbrev pub fromStart : ℕ → Answer RequestLine RequestLine (Error × RequestLine)
+  fromStart q = chain unread (λ _. unread) (emptyLines r xs q) fromMethod
+
+  end-parts : (k : RequestLine) (q : ℕ) → answer (endKnown k) (runAt (endStep r k) begin xs q) ≡ fromEnd k q
+  end-parts k q = answer-last k (λ _. k) (lineEndStep r NewLine) begin xs q
+
+  version-parts : (k : RequestLine) (q : ℕ) → answer (versionKnown k) (runAt (versionOn r k) (first name) xs q) ≡ fromVersion k q
+  version-parts k q =
+      answer-chain k (withVersion k) versionStep name xs q endKnown (λ _. begin) (endStep r)
+      ∙ chain-same k (withVersion k) (version xs q) end-parts
+
+  target-parts : (k : RequestLine) (q : ℕ) → answer (targetKnown k) (runAt (targetOn r k) (first targets.none) xs q) ≡ fromTarget k q
+  target-parts k q =
+      answer-chain k (withTarget k) targetStep targets.none xs q versionKnown (λ _. first name) (versionOn r)
+      ∙ chain-same k (withTarget k) (target xs q) version-parts
+
+  method-parts : (k : RequestLine) (q : ℕ) → answer (methodKnown k) (runAt (methodOn r k) (first words.none) xs q) ≡ fromMethod k q
+  method-parts k q =
+      answer-chain k (withMethod k) (wordStep isToken 32 Token) words.none xs q targetKnown (λ _. first targets.none) (targetOn r)
+      ∙ chain-same k (withMethod k) (word isToken 32 Token xs q) target-parts
+
+  line-parts : (q : ℕ) → requestLine r xs q ≡ fromStart q
+  line-parts q =
+      answer-chain unread (λ _. unread) (emptyLinesStep r) start xs q methodKnown (λ _. first words.none) (methodOn r)
+      ∙ chain-same unread (λ _. unread) (emptyLines r xs q) method-parts
+
+  pub request-line-whole : {z : Answer RequestLine RequestLine (Error × RequestLine)} (q : ℕ) → z ≡ fromStart q → z ≡ requestLine r xs q
+  request-line-whole q e = e ∙ sym (line-parts q)

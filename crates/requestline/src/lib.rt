@@ -1,0 +1,144 @@
+// The start of a request: empty lines, and the request line.
+ghost use mathlib.Core.Path.{_≡_};
+ghost use Rattle.rules.specs.Rules.{default};
+ghost use Rattle.startline.specs.Answers.{tell};
+ghost use Rattle.requestline.specs.RequestLine.{requestLine, fromEnd, fromVersion, fromTarget, fromMethod};
+use parts::Error;
+use parts::Found;
+use parts::Number;
+use parts::Passed;
+use startline::KnownNumber;
+use startline::KnownPiece;
+
+pub struct RequestLine {
+    pub method: KnownPiece,
+    pub target: KnownPiece,
+    pub version: KnownNumber,
+}
+
+// What reading a request line comes to, and what is known of it by then.
+pub struct RequestLineRead {
+    pub end: Passed,
+    pub line: RequestLine,
+}
+
+// The line's end.
+fn request_end(s: &[u8], at: usize, line: RequestLine) -> RequestLineRead
+    ensures { λ r. ⌜ tell (r .end) (r .line) ≡ fromEnd default (now (s .entry)) line at ⌝ }
+{
+    let end = parts::line_end(s, at, Error::NewLine);
+    RequestLineRead { end, line }
+}
+
+// A version, and the line's end.
+fn request_version(s: &[u8], at: usize, line: RequestLine) -> RequestLineRead
+    ensures { λ r. ⌜ tell (r .end) (r .line) ≡ fromVersion default (now (s .entry)) line at ⌝ }
+{
+    let found = versions::version(s, at);
+    match found {
+        Number::At(version, next) => {
+            let method = line.method;
+            let target = line.target;
+            request_end(
+                s,
+                next,
+                RequestLine {
+                    method,
+                    target,
+                    version: KnownNumber::Is(version),
+                },
+            )
+        }
+        Number::More => RequestLineRead {
+            end: Passed::More,
+            line,
+        },
+        Number::Bad(e) => RequestLineRead {
+            end: Passed::Bad(e),
+            line,
+        },
+    }
+}
+
+// A target and what follows it.
+fn request_target(s: &[u8], at: usize, line: RequestLine) -> RequestLineRead
+    ensures { λ r. ⌜ tell (r .end) (r .line) ≡ fromTarget default (now (s .entry)) line at ⌝ }
+{
+    let found = words::target(s, at);
+    match found {
+        Found::At(target, next) => {
+            let method = line.method;
+            let version = line.version;
+            request_version(
+                s,
+                next,
+                RequestLine {
+                    method,
+                    target: KnownPiece::Is(target),
+                    version,
+                },
+            )
+        }
+        Found::More => RequestLineRead {
+            end: Passed::More,
+            line,
+        },
+        Found::Bad(e) => RequestLineRead {
+            end: Passed::Bad(e),
+            line,
+        },
+    }
+}
+
+// A method and what follows it.
+fn request_method(s: &[u8], at: usize, line: RequestLine) -> RequestLineRead
+    ensures { λ r. ⌜ tell (r .end) (r .line) ≡ fromMethod default (now (s .entry)) line at ⌝ }
+{
+    let found = words::token(s, at, 32, Error::Token);
+    match found {
+        Found::At(method, next) => {
+            let target = line.target;
+            let version = line.version;
+            request_target(
+                s,
+                next,
+                RequestLine {
+                    method: KnownPiece::Is(method),
+                    target,
+                    version,
+                },
+            )
+        }
+        Found::More => RequestLineRead {
+            end: Passed::More,
+            line,
+        },
+        Found::Bad(e) => RequestLineRead {
+            end: Passed::Bad(e),
+            line,
+        },
+    }
+}
+
+// Empty lines and a request line, from the start of the input.
+pub fn request_line(s: &[u8]) -> RequestLineRead
+    ensures { λ r. ⌜ tell (r .end) (r .line) ≡ requestLine default (now (s .entry)) 0 ⌝ }
+{
+    let line = RequestLine {
+        method: KnownPiece::NotYet,
+        target: KnownPiece::NotYet,
+        version: KnownNumber::NotYet,
+    };
+    let passed = parts::empty_lines(s, 0);
+    match passed {
+        Passed::At(next) => request_method(s, next, line),
+        Passed::More => RequestLineRead {
+            end: Passed::More,
+            line,
+        },
+        Passed::Bad(e) => RequestLineRead {
+            end: Passed::Bad(e),
+            line,
+        },
+    }
+}

@@ -1,0 +1,19 @@
+-- `statusline::status_code` meets its contract: a match on the part is a way of the line.
+-- Assumes nothing.
+use borrow.Author.Needs.{needs}
+use Rattle.parts.specs.Ways.{ways}
+use Rattle.statusline.proofs.status_code.Statement.{statement}
+use Rattle.statusline.proofs.status_code.Tie as tie
+
+pub status-code-spec : {M : Type 1} → statement M
+status-code-spec =
+    tie.close
+    (tie.spec
+    (λ c κs. search needs)
+    (λ c. search needs)
+    (λ c κs. search needs)
+    (λ c. search needs)
+    (λ c. search needs)
+    (λ c. search (needs, ways))
+    (λ c. search (needs, ways))
+    (λ c. search (needs, ways)))

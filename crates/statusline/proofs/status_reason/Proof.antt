@@ -1,0 +1,18 @@
+-- `statusline::status_reason` meets its contract: a match on the part is a way of the line.
+-- Assumes nothing.
+use borrow.Author.Needs.{needs}
+use Rattle.parts.specs.Ways.{ways}
+use Rattle.statusline.proofs.status_reason.Statement.{statement}
+use Rattle.statusline.proofs.status_reason.Tie as tie
+
+pub status-reason-spec : {M : Type 1} → statement M
+status-reason-spec =
+    tie.close
+    (tie.spec
+    (λ c κs. search needs)
+    (λ c. search needs)
+    (λ c. search needs)
+    (λ c. search needs)
+    (λ c. search (needs, ways))
+    (λ c. search (needs, ways))
+    (λ c. search (needs, ways)))

@@ -1,0 +1,19 @@
+-- `statusline::status_version` meets its contract: a match on the part is a way of the line.
+-- Assumes nothing.
+use borrow.Author.Needs.{needs}
+use Rattle.parts.specs.Ways.{ways}
+use Rattle.statusline.proofs.status_version.Statement.{statement}
+use Rattle.statusline.proofs.status_version.Tie as tie
+
+pub status-version-spec : {M : Type 1} → statement M
+status-version-spec =
+    tie.close
+    (tie.spec
+    (λ c κs. search needs)
+    (λ c. search needs)
+    (λ c κs. search needs)
+    (λ c. search needs)
+    (λ c. search needs)
+    (λ c. search (needs, ways))
+    (λ c. search (needs, ways))
+    (λ c. search (needs, ways)))

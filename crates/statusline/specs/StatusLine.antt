@@ -1,0 +1,164 @@
+-- The start of a response: empty lines, then a status line, version SP code SP reason and the line's end (RFC 9112, 4).
+-- Assumes nothing.
+use Prim.Native.Nat.{ℕ}
+use mathlib.Core.Path.{_≡_, sym, ap, _∙_}
+use mathlib.Core.List.{List}
+use Rattle.reader.specs.Machine.{Step, runAt}
+use Rattle.reader.specs.Judged.{pass, judged}
+use Rattle.reader.specs.Seq.{Then, first, seq}
+use Rattle.reader.specs.Answer.{Answer, answer, and, and-same, answer-seq, either}
+use Rattle.reader.specs.Chain.{nothing, reads, ended, answer-ended, part, last, chain, chain-same, answer-last, answer-chain}
+use Rattle.parts.specs.declared.Error.{Error}
+use Rattle.parts.specs.declared.Error.the-variants.{Status, Version}
+use Rattle.parts.specs.declared.Piece.{Piece}
+use Rattle.rules.specs.Rules.{Rules, default}
+use Rattle.parts.specs.LineEnd.{LineEnd, begin, lineEndStep, lineEnd}
+use Rattle.parts.specs.EmptyLines.{EmptyLines, start, emptyLinesStep, emptyLines}
+use Rattle.versions.specs.Version.{name, versionStep, version}
+use Rattle.spaces.specs.Space.{spaceStep, space, behindCodeStep, behindCode}
+use Rattle.status.specs.Code.{Code, codeStep, code}
+use Rattle.status.specs.Code as codes
+use Rattle.status.specs.Reason.{Reason, reasonStep, reason}
+use Rattle.status.specs.Reason as reasons
+use Rattle.statusline.specs.declared.StatusLine.{StatusLine}
+use Rattle.startline.specs.declared.KnownPiece.the-variants as pieces
+use Rattle.startline.specs.declared.KnownNumber.the-variants as numbers
+
+-- what each part adds to what is known
+abbrev pub unread : StatusLine
+unread = record { version = numbers.NotYet; code = numbers.NotYet; reason = pieces.NotYet }
+
+abbrev pub withVersion : StatusLine → ℕ → StatusLine
+withVersion k v = record { version = numbers.Is v; code = k .code; reason = k .reason }
+
+abbrev pub withCode : StatusLine → ℕ → StatusLine
+withCode k c = record { version = k .version; code = numbers.Is c; reason = k .reason }
+
+abbrev pub withReason : StatusLine → Piece → StatusLine
+withReason k w = record { version = k .version; code = k .code; reason = pieces.Is w }
+
+abbrev pub Line : Type 0 → Type 0
+Line S = Step S StatusLine (Error × StatusLine)
+
+-- the states, from the last part to the first
+abbrev pub ReasonEnd : Type 0
+ReasonEnd = Then Reason Piece LineEnd
+
+abbrev pub Behind : Type 0
+Behind = Then (Unit {0}) StatusLine ReasonEnd
+
+abbrev pub Codes : Type 0
+Codes = Then Code StatusLine Behind
+
+abbrev pub Spaces : Type 0
+Spaces = Then (Unit {0}) StatusLine Codes
+
+abbrev pub Versions : Type 0
+Versions = Then (List ℕ) StatusLine Spaces
+
+abbrev pub Starts : Type 0
+Starts = Then EmptyLines StatusLine Versions
+
+module _ (r : Rules) where
+  -- a reason is known once its line has ended
+  abbrev pub reasonEndStep : Step ReasonEnd Piece Error
+  reasonEndStep = seq reasonStep (λ _. begin) (λ w. judged (λ _. pass w) (λ e. e) (lineEndStep r Status))
+
+  abbrev pub reasonOn : StatusLine → Line ReasonEnd
+  reasonOn k = part k (withReason k) reasonEndStep
+
+  abbrev pub behindOn : StatusLine → Line Behind
+  behindOn k = seq (part k (λ _. k) (behindCodeStep r)) (λ _. first reasons.none) reasonOn
+
+  abbrev pub codeOn : StatusLine → Line Codes
+  codeOn k = seq (part k (withCode k) codeStep) (λ _. first tt) behindOn
+
+  abbrev pub spaceOn : StatusLine → Line Spaces
+  spaceOn k = seq (part k (λ _. k) (spaceStep Version)) (λ _. first codes.none) codeOn
+
+  abbrev pub versionOn : StatusLine → Line Versions
+  versionOn k = seq (part k (withVersion k) versionStep) (λ _. first tt) spaceOn
+
+  abbrev pub statusLineStep : Line Starts
+  statusLineStep = seq (part unread (λ _. unread) (emptyLinesStep r)) (λ _. first name) versionOn
+
+-- what is known in each state
+abbrev pub reasonKnown : StatusLine → ReasonEnd → StatusLine
+reasonKnown k _ = k
+
+abbrev pub behindKnown : StatusLine → Behind → StatusLine
+behindKnown k = either (λ _. k) reasonKnown
+
+abbrev pub codeKnown : StatusLine → Codes → StatusLine
+codeKnown k = either (λ _. k) behindKnown
+
+abbrev pub spaceKnown : StatusLine → Spaces → StatusLine
+spaceKnown k = either (λ _. k) codeKnown
+
+abbrev pub versionKnown : StatusLine → Versions → StatusLine
+versionKnown k = either (λ _. k) spaceKnown
+
+abbrev pub lineKnown : Starts → StatusLine
+lineKnown = either (λ _. unread) versionKnown
+
+abbrev pub statusLine : Rules → List ℕ → ℕ → Answer StatusLine StatusLine (Error × StatusLine)
+statusLine r xs at = answer lineKnown (runAt (statusLineStep r) (first start) xs at)
+
+-- the same by its parts
+module _ (r : Rules) (xs : List ℕ) where
+  abbrev pub reasonEnd : ℕ → Answer (Unit {0}) Piece Error
+  reasonEnd q = and (reason xs q) (λ w i. ended w (lineEnd r Status xs i))
+
+  abbrev pub fromReason : StatusLine → ℕ → Answer StatusLine StatusLine (Error × StatusLine)
+  fromReason k q = last k (withReason k) (reasonEnd q)
+
+  abbrev pub fromBehind : StatusLine → ℕ → Answer StatusLine StatusLine (Error × StatusLine)
+  fromBehind k q = chain k (λ _. k) (behindCode r xs q) fromReason
+
+  abbrev pub fromCode : StatusLine → ℕ → Answer StatusLine StatusLine (Error × StatusLine)
+  fromCode k q = chain k (withCode k) (code xs q) fromBehind
+
+  abbrev pub fromSpace : StatusLine → ℕ → Answer StatusLine StatusLine (Error × StatusLine)
+  fromSpace k q = chain k (λ _. k) (space Version xs q) fromCode
+
+  abbrev pub fromVersion : StatusLine → ℕ → Answer StatusLine StatusLine (Error × StatusLine)
+  fromVersion k q = chain k (withVersion k) (version xs q) fromSpace
+
+  abbrev pub fromStart : ℕ → Answer StatusLine StatusLine (Error × StatusLine)
+  fromStart q = chain unread (λ _. unread) (emptyLines r xs q) fromVersion
+
+  reason-end-parts : (q : ℕ) → reads (reasonEndStep r) (first reasons.none) xs q ≡ reasonEnd q
+  reason-end-parts q =
+      answer-seq nothing (λ _. nothing) reasonStep (λ _. begin) (λ w. judged (λ _. pass w) (λ e. e) (lineEndStep r Status)) reasons.none xs q
+      ∙ and-same (reason xs q) (λ w i. answer-ended w (lineEndStep r Status) begin xs i)
+
+  reason-parts : (k : StatusLine) (q : ℕ) → answer (reasonKnown k) (runAt (reasonOn r k) (first reasons.none) xs q) ≡ fromReason k q
+  reason-parts k q = answer-last k (withReason k) (reasonEndStep r) (first reasons.none) xs q ∙ ap (last k (withReason k)) (reason-end-parts q)
+
+  behind-parts : (k : StatusLine) (q : ℕ) → answer (behindKnown k) (runAt (behindOn r k) (first tt) xs q) ≡ fromBehind k q
+  behind-parts k q =
+      answer-chain k (λ _. k) (behindCodeStep r) tt xs q reasonKnown (λ _. first reasons.none) (reasonOn r)
+      ∙ chain-same k (λ _. k) (behindCode r xs q) reason-parts
+
+  code-parts : (k : StatusLine) (q : ℕ) → answer (codeKnown k) (runAt (codeOn r k) (first codes.none) xs q) ≡ fromCode k q
+  code-parts k q =
+      answer-chain k (withCode k) codeStep codes.none xs q behindKnown (λ _. first tt) (behindOn r)
+      ∙ chain-same k (withCode k) (code xs q) behind-parts
+
+  space-parts : (k : StatusLine) (q : ℕ) → answer (spaceKnown k) (runAt (spaceOn r k) (first tt) xs q) ≡ fromSpace k q
+  space-parts k q =
+      answer-chain k (λ _. k) (spaceStep Version) tt xs q codeKnown (λ _. first codes.none) (codeOn r)
+      ∙ chain-same k (λ _. k) (space Version xs q) code-parts
+
+  version-parts : (k : StatusLine) (q : ℕ) → answer (versionKnown k) (runAt (versionOn r k) (first name) xs q) ≡ fromVersion k q
+  version-parts k q =
+      answer-chain k (withVersion k) versionStep name xs q spaceKnown (λ _. first tt) (spaceOn r)
+      ∙ chain-same k (withVersion k) (version xs q) space-parts
+
+  line-parts : (q : ℕ) → statusLine r xs q ≡ fromStart q
+  line-parts q =
+      answer-chain unread (λ _. unread) (emptyLinesStep r) start xs q versionKnown (λ _. first name) (versionOn r)
+      ∙ chain-same unread (λ _. unread) (emptyLines r xs q) version-parts
+
+  pub status-line-whole : {z : Answer StatusLine StatusLine (Error × StatusLine)} (q : ℕ) → z ≡ fromStart q → z ≡ statusLine r xs q
+  status-line-whole q e = e ∙ sym (line-parts q)

@@ -1,0 +1,2 @@
+pub mod Trim
+pub mod Value
