@@ -31,13 +31,15 @@ use Rattle.heads.specs.Calls.{request, response}
 use Rattle.agreement.specs.Block.{exact-block}
 use Rattle.agreement.specs.StartLine.{exact-request-line, exact-status-line}
 use Rattle.agreement.specs.Places.{at-start}
-use Rattle.agreement.specs.Fields.{fieldsOf, block-derived, block-read, block-over, few-fields}
+use Rattle.agreement.specs.Fields.{fieldsOf, block-derived, block-read, block-over, few-fields, Each, fields-in}
+use Rattle.agreement.specs.FieldLine.{HeaderIn}
+use Rattle.agreement.specs.Inside.{request-line-in, status-line-in}
 use Rattle.agreement.specs.Starts.{Fixed}
-use Rattle.agreement.specs.Known.{RequestSays, StatusSays}
+use Rattle.agreement.specs.Known.{RequestSays, StatusSays, RequestInside, StatusInside}
 use Rattle.agreement.specs.Request.{request-derived, request-read}
 use Rattle.agreement.specs.Response.{response-derived, response-read}
-use Rattle.agreement.specs.Exactly.{Found, Tells, Exactly, exactly}
-use Rattle.agreement.specs.Promises.{HeadPromise, block-alone, says-nothing}
+use Rattle.agreement.specs.Exactly.{Found, Tells, Exactly, exactly, Lies, head-lies}
+use Rattle.agreement.specs.Promises.{HeadPromise, block-alone, says-nothing, lies-nowhere}
 use Rattle.agreement.specs.Kept.{kept}
 
 default-fixed : Fixed default
@@ -55,6 +57,15 @@ module _ (n : ℕ) where
   response-exactly =
       exactly default n (statuses.statusLineStep default) statuses.lineKnown (first start) (exact-status-line default) (status-line default) StatusSays
       (λ z w rest k h g. response-derived default-fixed h g) (λ z e l c rest g h a b d. response-read default-fixed h a b d)
+
+module _ (n : ℕ) where
+  request-lies : Lies RequestInside (request default n)
+  unfolding request
+  request-lies = head-lies default n (requests.requestLineStep default) requests.lineKnown (first start) RequestInside (request-line-in default)
+
+  response-lies : Lies StatusInside (response default n)
+  unfolding response
+  response-lies = head-lies default n (statuses.statusLineStep default) statuses.lineKnown (first start) StatusInside (status-line-in default)
 
 -- the answer of a block as that of a head with no start line
 abbrev alone : Blocks → Heads (Unit {0})
@@ -109,19 +120,22 @@ module _ (n : ℕ) where
     stays = λ s u x e. ap alone (bad-stays (lapwise (λ hs _. hs)) (blockStep default n) s u ([], fresh) 0 (bad-block (block default n [] s 0) x e));
   }
 
-module _ {s old : List ℕ} {end : Passed} {count : ℕ} {new : List ℕ} where
-  pub request-promise : {line : RequestLine} → Told (request default (length old / 4) s) end line count old new → HeadPromise (request-head default) RequestSays s old end line count new
-  request-promise T = kept (request-exactly (length old / 4)) T
+headers-lie : (n : ℕ) → Lies lies-nowhere (headersOf n)
+headers-lie n = record { line = λ z. tt; fields = λ z. subst (Each (HeaderIn (length z))) (sym (given-block (block default n [] z 0))) (fields-in z default n [] 0 tt) }
 
-  pub response-promise : {line : StatusLine} → Told (response default (length old / 4) s) end line count old new → HeadPromise (response-head default) StatusSays s old end line count new
-  response-promise T = kept (response-exactly (length old / 4)) T
+module _ {s old : List ℕ} {end : Passed} {count : ℕ} {new : List ℕ} where
+  pub request-promise : {line : RequestLine} → Told (request default (length old / 4) s) end line count old new → HeadPromise (request-head default) RequestSays RequestInside s old end line count new
+  request-promise T = kept (request-exactly (length old / 4)) (request-lies (length old / 4)) T
+
+  pub response-promise : {line : StatusLine} → Told (response default (length old / 4) s) end line count old new → HeadPromise (response-head default) StatusSays StatusInside s old end line count new
+  response-promise T = kept (response-exactly (length old / 4)) (response-lies (length old / 4)) T
 
 tell-alone : (end : Passed) (hs : List Header) → tell end (tt, hs) ≡ alone (blocks.tell end hs)
 tell-alone (At q) hs = refl
 tell-alone More hs = refl
 tell-alone (Bad e) hs = refl
 
-pub headers-promise : {s old : List ℕ} {r : Block} {new : List ℕ} → blocks.Told (block default (length old / 4) [] s 0) r old new → HeadPromise block-alone says-nothing s old (r .end) tt (r .count) new
+pub headers-promise : {s old : List ℕ} {r : Block} {new : List ℕ} → blocks.Told (block default (length old / 4) [] s 0) r old new → HeadPromise block-alone says-nothing lies-nowhere s old (r .end) tt (r .count) new
 headers-promise {s} {old} {r} {new} T =
     let b : Blocks = block default (length old / 4) [] s 0 in
     let g : given (alone b) ≡ blocks.given b = given-block b in
@@ -131,4 +145,4 @@ headers-promise {s} {old} {r} {new} T =
       count-is = T .count ∙ ap length (sym g);
       slots = T .slots ∙ ap (λ y. filled y old) (sym g);
     } in
-    kept (headers-exactly (length old / 4)) U
+    kept (headers-exactly (length old / 4)) (headers-lie (length old / 4)) U

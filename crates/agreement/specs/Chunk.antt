@@ -187,9 +187,9 @@ no-cr-token b h e = false≢true (sym (sym (token-is-tchar b .1 h) ∙ ap isToke
 no-cr-quoted : (b : ℕ) → qdtext b → NoCR b
 no-cr-quoted b (fields.qdtext.tab h) e = omega (arith, h, e)
 no-cr-quoted b (fields.qdtext.space h) e = omega (arith, h, e)
-no-cr-quoted b (fields.qdtext.mark h) e = omega (arith, h .low, e)
-no-cr-quoted b (fields.qdtext.below h) e = omega (arith, h .low, e)
-no-cr-quoted b (fields.qdtext.above h) e = omega (arith, h .low, e)
+no-cr-quoted b (fields.qdtext.exclamation-mark h) e = omega (arith, h .low, e)
+no-cr-quoted b (fields.qdtext.before-backslash h) e = omega (arith, h .low, e)
+no-cr-quoted b (fields.qdtext.behind-backslash h) e = omega (arith, h .low, e)
 no-cr-quoted b (fields.qdtext.obsolete h) e = omega (arith, h .low, e)
 
 literal : (b : ℕ) → eqb b 13 ≡ false → NoCR b
@@ -204,7 +204,7 @@ tokens (some {b = b} x k) = more (no-cr-token b x) (many-as no-cr-token k)
 quotes : {w : List ℕ} → quoted w → Many NoCR w
 quotes fields.quoted.none = none
 quotes (fields.quoted.plain {b = b} x k) = more (no-cr-quoted b x) (quotes k)
-quotes (fields.quoted.pair {b = b} x k) = more (literal 0x5C refl) (more (no-cr-text b x) (quotes k))
+quotes (fields.quoted.escaped (fields.quoted-pair.pair {b = b} x) k) = more (literal 0x5C refl) (more (no-cr-text b x) (quotes k))
 
 values : {w : List ℕ} → chunk-ext-val w → Many NoCR w
 values (grammar.chunk-ext-val.word k) = tokens k

@@ -4,15 +4,14 @@ use Prim.Native.Nat.{ℕ, _+_, _-_, _≤_, _<_}
 use native.Mathlib.Omega.{arith}
 use mathlib.Core.Path.{_≡_, refl, sym, ap, subst, _∙_}
 use mathlib.Core.List.{List, [], _∷_, _++_, append-assoc}
-use lib.ListN.{length, take, drop, length-append}
+use lib.ListN.{length, take, length-append}
 use Rattle.reader.specs.Machine.{Step, run, runAt}
-use Rattle.reader.specs.Seq.{Then, first}
+use Rattle.reader.specs.Seq.{first}
 use Rattle.reader.specs.Answer.{Answer, got, short, bad, answer, answered, bad-stays}
-use Rattle.reader.specs.Branch.{fresh}
 use Rattle.exact.specs.Exact.{Relation, Exact}
 use Rattle.rules.specs.Rules.{Rules}
 use Rattle.grammar.specs.Fields.{Field}
-use Rattle.grammar.specs.Message.{empty-lines, line-end, header-block, head}
+use Rattle.grammar.specs.Message.{empty-lines, line-end, head}
 use Rattle.grammar.specs.Message as grammar
 use Rattle.parts.specs.declared.Error.{Error}
 use Rattle.parts.specs.declared.Error.the-variants.{TooManyHeaders}
@@ -21,12 +20,12 @@ use Rattle.fields.specs.Block.{Blocks, block}
 use Rattle.fields.specs.Block as blocks
 use Rattle.heads.specs.Head.{Heads, Known, headStep, headKnown, over, headed, head-parts, given}
 use Rattle.heads.specs.Head as heads
-use Rattle.agreement.specs.Block.{Blocked, exact-block}
-use Rattle.agreement.specs.Head.{Headed, exact-head}
+use Rattle.agreement.specs.Head.{exact-head}
 use Rattle.agreement.specs.Places.{At, at-start, at-as, at-first, at-second, from-at}
-use Rattle.agreement.specs.Fields.{fieldsOf, block-derived, block-read, block-over, few-fields}
-use Rattle.agreement.specs.Known.{Started, LineRead}
-use Rattle.agreement.specs.Steps.{passed-is}
+use Rattle.agreement.specs.Fields.{fieldsOf, block-derived, block-read, block-over, few-fields, Each, fields-in}
+use Rattle.agreement.specs.FieldLine.{HeaderIn}
+use Rattle.agreement.specs.Inside.{knownOf}
+use Rattle.agreement.specs.Steps.{passed-is, Started, LineRead}
 
 module _ {L K : Type 0} (Head : List ℕ → L → List Field → Type 0) (Says : List ℕ → K → L → Type 0) (n : ℕ) where
   -- the first q bytes of z are a head, and k and hs say what it says
@@ -54,6 +53,45 @@ module _ {L K : Type 0} (Head : List ℕ → L → List Field → Type 0) (Says 
     pub too-many : (w rest : List ℕ) (l : L) (fs : List Field) → Head w l fs → n < length fs → Tells (w ++ rest) l (take n fs) (λ k hs. bad (TooManyHeaders, (k, hs))) (read (w ++ rest))
     pub few : (z : List ℕ) → length (given (read z)) ≤ n
     pub stays : (s u : List ℕ) (x : Error × Known K) → read s ≡ bad x → read (s ++ u) ≡ bad x
+
+-- every place that a reader tells lies in the input, whatever it answers
+pub record Lies {K : Type 0} (In : ℕ → K → Type 0) (read : List ℕ → Heads K) : Type 0 where
+  pub line : (z : List ℕ) → In (length z) (knownOf (read z) .0)
+  pub fields : (z : List ℕ) → Each (HeaderIn (length z)) (given (read z))
+
+given-over : {K : Type 0} (k : K) (b : Blocks) → given (over k b) ≡ blocks.given b
+given-over k (got hs q) = refl
+given-over k (short hs) = refl
+given-over k (bad x) = refl
+
+line-over : {K : Type 0} (k : K) (b : Blocks) → knownOf (over k b) .0 ≡ k
+line-over k (got hs q) = refl
+line-over k (short hs) = refl
+line-over k (bad x) = refl
+
+module _ (r : Rules) (n : ℕ) {K S : Type 0} (m : Step S K (Error × K)) (known : S → K) (s : S) where
+  line-is : (z : List ℕ) (a : Answer K K (Error × K)) → knownOf (headed a (λ k q. over k (block r n [] z q))) .0 ≡ knownOf a
+  line-is z (got k q) = line-over k (block r n [] z q)
+  line-is z (short k) = refl
+  line-is z (bad x) = refl
+
+  pub head-line : (z : List ℕ) → knownOf (heads.head r n m known s z) .0 ≡ knownOf (answer known (runAt m s z 0))
+  head-line z = ap (λ (y : Heads K). knownOf y .0) (head-parts r n m known s z) ∙ line-is z (answer known (runAt m s z 0))
+
+  -- what holds of the headers of every block holds of those of a head
+  given-is : (P : List Header → Type 0) → P [] → (z : List ℕ) → ((q : ℕ) → P (blocks.given (block r n [] z q))) → (a : Answer K K (Error × K)) → P (given (headed a (λ k q. over k (block r n [] z q))))
+  given-is P h z g (got k q) = subst P (sym (given-over k (block r n [] z q))) (g q)
+  given-is P h z g (short k) = h
+  given-is P h z g (bad x) = h
+
+  head-given : (P : List Header → Type 0) → P [] → (z : List ℕ) → ((q : ℕ) → P (blocks.given (block r n [] z q))) → P (given (heads.head r n m known s z))
+  head-given P h z g = subst (λ a. P (given a)) (sym (head-parts r n m known s z)) (given-is P h z g (answer known (runAt m s z 0)))
+
+  pub head-lies : (In : ℕ → K → Type 0) → ((z : List ℕ) → In (length z) (knownOf (answer known (runAt m s z 0)))) → Lies In (heads.head r n m known s)
+  head-lies In h = record {
+    line = λ z. subst (In (length z)) (sym (head-line z)) (h z);
+    fields = λ z. head-given (Each (HeaderIn (length z))) tt z (λ q. fields-in z r n [] q tt);
+  }
 
 module _ (r : Rules) (n : ℕ) {L K S : Type 0} (m : Step S K (Error × K)) (known : S → K) (s : S) {G : Relation K} (M : Exact m s G)
     (start-line : List ℕ → L → Type 0) (Says : List ℕ → K → L → Type 0)
@@ -111,24 +149,11 @@ module _ (r : Rules) (n : ℕ) {L K S : Type 0} (m : Step S K (Error × K)) (kno
       let j : n - 0 ≡ n = omega arith in
       record { k = R .k; hs = F .new; says = R .says; holds = F .holds ∙ ap (λ y. take y fs) j; answers = line-got z (e ++ v ++ c) (b ++ rest) (R .k) h₁ (R .reads) ∙ ap (over (R .k)) (F .answers) }
 
-  few-over : (z : List ℕ) (k : K) (b : Blocks) → length (blocks.given b) ≤ n → length (given (over k b)) ≤ n
-  few-over z k (got hs q) l = l
-  few-over z k (short hs) l = l
-  few-over z k (bad x) l = l
-
-  few-headed : (z : List ℕ) (a : Answer K K (Error × K)) → length (given (headed a (λ k q. over k (block r n [] z q)))) ≤ n
-  few-headed z (got k q) = few-over z k (block r n [] z q) (few-fields z r n [] q (omega arith))
-  few-headed z (short k) = omega arith
-  few-headed z (bad x) = omega arith
-
-  few-heads : (z : List ℕ) → length (given (read z)) ≤ n
-  few-heads z = subst (λ a. length (given a) ≤ n) (sym (head-parts r n m known s z)) (few-headed z (answer known (runAt m s z 0)))
-
   pub exactly : Exactly (head r start-line) Says n read
   exactly = record {
     sound = found;
     complete = complete-head;
     too-many = over-head;
-    few = few-heads;
+    few = λ z. head-given r n m known s (λ hs. length hs ≤ n) (omega arith) z (λ q. few-fields z r n [] q (omega arith));
     stays = λ z u x. bad-stays (headKnown r n m known s) (headStep r n m known s) z u (first s) 0;
   }

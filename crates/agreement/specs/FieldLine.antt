@@ -1,11 +1,12 @@
 -- A line of a block is read exactly where the grammar has a field line or an empty line, and its pieces hold the field.
 -- Assumes nothing.
-use Prim.Native.Nat.{ℕ, _+_}
+use Prim.Native.Nat.{ℕ, _+_, _≤_}
+use native.Mathlib.Omega.{arith}
 use mathlib.Core.Path.{_≡_, refl, sym, ap, subst, _∙_}
 use mathlib.Core.List.{List, [], _∷_, _++_, append-assoc}
 use mathlib.Core.Bool.{Bool, true, false, _&&_, _||_, false≢true}
 use lib.Dec.{eqb}
-use lib.ListN.{length}
+use lib.ListN.{length, length-append}
 use borrow.Author.Tests.{ne-eqb}
 use Rattle.reader.specs.Judged.{Verdict, pass}
 use Rattle.exact.specs.Judged.{Passes}
@@ -23,9 +24,10 @@ use Rattle.parts.specs.declared.Piece.{Piece}
 use Rattle.parts.specs.Answers.{piece}
 use Rattle.fields.specs.declared.Header.{Header}
 use Rattle.fields.specs.Line.{Kind, header, end, named, ends}
-use Rattle.leaves.specs.Value.{Stop}
+use Rattle.leaves.specs.Value.{Stop, Valued, empty, full}
 use Rattle.agreement.specs.Line.{Fielded, Lined}
 use Rattle.agreement.specs.Places.{held, At, at-as, at-first, at-second, held-at}
+use Rattle.agreement.specs.Steps.{passed-is}
 use Rattle.agreement.specs.Rows.{tokens, in-token}
 use Rattle.agreement.specs.Value.{value-derived, value-read}
 
@@ -118,12 +120,40 @@ module _ {z : List ℕ} {r : Rules} {p : ℕ} {rest : List ℕ} where
       }
 
 -- an empty line, by its first byte
-ends-cr : (r : Rules) → ends r 13 ≡ true
-ends-cr r = refl
-
 ends-lf : (t : Bool) → t ≡ true → (false || (t && true)) ≡ true
 ends-lf t h = rw h
 
 pub end-read : {r : Rules} {p : ℕ} {e rest : List ℕ} → line-end r e → Lined r p e end rest
 end-read {r} {rest = rest} crlf = one 13 (10 ∷ rest) refl refl (record { a = tt; holds = crlf; passes = refl })
 end-read {r} {rest = rest} (lf h) = one 10 rest refl (ends-lf (r .lf-alone) h) (record { a = tt; holds = lf h; passes = refl })
+
+-- a piece ends within the first e bytes
+abbrev pub PieceIn : ℕ → Piece → Type 0
+PieceIn e a = a .offset + a .length ≤ e
+
+abbrev pub HeaderIn : ℕ → Header → Type 0
+HeaderIn e h = PieceIn e (h .name) × PieceIn e (h .value)
+
+value-in : {p : ℕ} {w rest : List ℕ} {a : Piece} → Valued p w a rest → PieceIn (p + length w) a
+value-in (empty {o = o} k s) = omega arith
+value-in {p} (full {o = o} {v = v} {t = t} k c u s) = omega (arith, length-append (o ++ v) t, length-append o v)
+
+kind-name : {h : Header} {n v : Piece} → header h ≡ named n v → h .name ≡ n
+kind-name e = cc
+
+kind-value : {h : Header} {n v : Piece} → header h ≡ named n v → h .value ≡ v
+kind-value e = cc
+
+-- where a line is a header's, its pieces are those that were read
+pub line-in : {r : Rules} {p : ℕ} {w rest : List ℕ} {h : Header} → Lined r p w (header h) rest → HeaderIn (p + length w) h
+line-in (one b bs e t K) = let n : _≡_ {A = ℕ} 0 1 = cc in absurd (omega arith)
+line-in {p = p} {w = w} {h = h} (other b bs e t K) =
+    let S = K .right in
+    let same : header h ≡ named (K .a) (S .a) = passed-is (S .right .passes) in
+    let name : h .name ≡ K .a = kind-name same in
+    let value : h .value ≡ S .a = kind-value same in
+    let l : length w ≡ length (K .w₁) + (length (S .w₁) + length (S .w₂)) = ap length (K .whole) ∙ length-append (K .w₁) (K .w₂) ∙ ap (λ y. length (K .w₁) + y) (ap length (S .whole) ∙ length-append (S .w₁) (S .w₂)) in
+    let m : length (K .w₁) ≡ length (K .left .v) + 1 = ap length (K .left .whole) ∙ length-append (K .left .v) colon in
+    let i : PieceIn (p + length (K .w₁)) (K .a) = subst (PieceIn (p + length (K .w₁))) (sym (K .left .place)) (omega (arith, m)) in
+    let j = value-in (S .left) in
+    (subst (PieceIn (p + length w)) (sym name) (omega (arith, i, l)), subst (PieceIn (p + length w)) (sym value) (omega (arith, j, l)))

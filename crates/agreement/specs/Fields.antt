@@ -29,11 +29,20 @@ use Rattle.leaves.specs.Rows.{split}
 use Rattle.agreement.specs.Line.{Lined, exact-line}
 use Rattle.agreement.specs.Block.{Lapped, line-long}
 use Rattle.agreement.specs.Places.{At, at-as, at-first, at-second, from-at}
-use Rattle.agreement.specs.FieldLine.{fieldOf, LineIs, ended, field, line-derived, field-read, end-read}
+use Rattle.agreement.specs.FieldLine.{fieldOf, LineIs, ended, field, line-derived, field-read, end-read, HeaderIn, line-in}
 
 -- the fields that headers hold
 abbrev pub fieldsOf : List ℕ → List Header → List Field
 fieldsOf z hs = map (fieldOf z) hs
+
+-- all headers of a list
+abbrev pub Each : (Header → Type 0) → List Header → Type 0
+Each P [] = Unit {0}
+Each P (h ∷ hs) = P h × Each P hs
+
+each-more : (P : Header → Type 0) (hs : List Header) (h : Header) → Each P hs → P h → Each P (hs ++ (h ∷ []))
+each-more P [] h k x = (x, tt)
+each-more P (g ∷ hs) h k x = (k .0, each-more P hs h (k .1) x)
 
 -- the headers that a block adds to those before it
 pub record Added (z : List ℕ) (r : Rules) (n : ℕ) (hs : List Header) (w : List ℕ) (all : List Header) : Type 0 where
@@ -147,27 +156,45 @@ module _ (z : List ℕ) (r : Rules) (n : ℕ) where
       over-by hs (H .h) (p + length (w ++ e)) (line-at h₁ (H .reads)) (H .holds) l
       (λ i. block-over (at-second (w ++ e) v h) k (hs ++ (H .h ∷ [])) (omega (arith, m, i)) (omega (arith, m, o))) (ltb (length hs) n) refl
 
+  -- a header's pieces end before its line does
+  header-in : (p q : ℕ) (h : Header) → line r z p ≡ got (header h) q → HeaderIn (length z) h
+  header-in p q h e =
+      let P = exact-line r .sound p (drop p z) (header h) q (answered nothing _ e) in
+      let s : 1 ≤ length (P .w) = line-long r p (P .w) (header h) (P .rest) (P .holds) in
+      let l : length z - p ≡ length (P .w) + length (P .rest) = sym (length-drop p z) ∙ ap length (P .whole) ∙ length-append (P .w) (P .rest) in
+      let k = line-in (P .holds) in
+      (omega (arith, k .0, s, l), omega (arith, k .1, s, l))
+
   -- a line's end is behind its start, and in the input
-  line-within : (p q : ℕ) (k : Kind) → line r z p ≡ got k q → (p + 1 ≤ q) × (q ≤ length z)
+  pub line-within : (p q : ℕ) (k : Kind) → line r z p ≡ got k q → (p + 1 ≤ q) × (q ≤ length z)
   line-within p q k e =
       let P = exact-line r .sound p (drop p z) k q (answered nothing _ e) in
       let l : length z - p ≡ length (P .w) + length (P .rest) = sym (length-drop p z) ∙ ap length (P .whole) ∙ length-append (P .w) (P .rest) in
       let s : 1 ≤ length (P .w) = line-long r p (P .w) k (P .rest) (P .holds) in
       (omega (arith, P .place, s), omega (arith, P .place, s, l))
 
+  -- what holds of the headers before a block, and still holds with one more that is read, holds of all that are given
+  module _ (P : List Header → Type 0) (grows : (hs : List Header) (h : Header) (p q : ℕ) → line r z p ≡ got (header h) q → length hs < n → P hs → P (hs ++ (h ∷ []))) where
+    given-line : (hs : List Header) (p : ℕ) → P hs → ((hs′ : List Header) (q : ℕ) → P hs′ → p + 1 ≤ q → q ≤ length z → P (given (block r n hs′ z q))) → (a : Answer (Unit {0}) Kind Error) → line r z p ≡ a → P (given (rounds (retold (λ _. hs) (taken n hs) (λ e. (e, hs)) a) (λ hs′ q. block r n hs′ z q)))
+    given-line hs p f ih (short u) e = f
+    given-line hs p f ih (bad x) e = f
+    given-line hs p f ih (got end q) e = f
+    given-line hs p f ih (got (header h) q) e =
+        split (λ v. P (given (rounds (verdict {U = Unit {0}} (λ _. hs) (taken n hs) (λ e. (e, hs)) v q) (λ hs′ q. block r n hs′ z q)))) (ltb (length hs) n)
+        (λ t. let k = line-within p q (header h) e in ih (hs ++ (h ∷ [])) q (grows hs h p q e (ltb-true (length hs) n t) f) (k .0) (k .1))
+        (λ t. f)
+
+    given-by : (m : ℕ) (hs : List Header) (p : ℕ) → length z ≤ p + m → P hs → P (given (block r n hs z p))
+    given-by zero hs p l f = subst (λ a. P (given a)) (sym (block-line r n hs z p)) (given-line hs p f (λ hs′ q g i j. absurd (omega (arith, i, j, l))) (line r z p) refl)
+    given-by (suc m) hs p l f = subst (λ a. P (given a)) (sym (block-line r n hs z p)) (given-line hs p f (λ hs′ q g i j. given-by m hs′ q (omega (arith, i, l)) g) (line r z p) refl)
+
+    pub given-all : (hs : List Header) (p : ℕ) → P hs → P (given (block r n hs z p))
+    given-all hs p = given-by (length z) hs p (omega arith)
+
   -- no more headers are given than there are slots
-  few-line : (hs : List Header) (p : ℕ) → length hs ≤ n → ((hs′ : List Header) (q : ℕ) → length hs′ ≤ n → p + 1 ≤ q → q ≤ length z → length (given (block r n hs′ z q)) ≤ n) → (a : Answer (Unit {0}) Kind Error) → line r z p ≡ a → length (given (rounds (retold (λ _. hs) (taken n hs) (λ e. (e, hs)) a) (λ hs′ q. block r n hs′ z q))) ≤ n
-  few-line hs p f ih (short u) e = f
-  few-line hs p f ih (bad x) e = f
-  few-line hs p f ih (got end q) e = f
-  few-line hs p f ih (got (header h) q) e =
-      split (λ v. length (given (rounds (verdict {U = Unit {0}} (λ _. hs) (taken n hs) (λ e. (e, hs)) v q) (λ hs′ q. block r n hs′ z q))) ≤ n) (ltb (length hs) n)
-      (λ t. let k = line-within p q (header h) e in ih (hs ++ (h ∷ [])) q (omega (arith, ltb-true (length hs) n t, length-append hs (h ∷ []))) (k .0) (k .1))
-      (λ t. f)
-
-  few-by : (m : ℕ) (hs : List Header) (p : ℕ) → length z ≤ p + m → length hs ≤ n → length (given (block r n hs z p)) ≤ n
-  few-by zero hs p l f = subst (λ a. length (given a) ≤ n) (sym (block-line r n hs z p)) (few-line hs p f (λ hs′ q g i j. absurd (omega (arith, i, j, l))) (line r z p) refl)
-  few-by (suc m) hs p l f = subst (λ a. length (given a) ≤ n) (sym (block-line r n hs z p)) (few-line hs p f (λ hs′ q g i j. few-by m hs′ q (omega (arith, i, l)) g) (line r z p) refl)
-
   pub few-fields : (hs : List Header) (p : ℕ) → length hs ≤ n → length (given (block r n hs z p)) ≤ n
-  few-fields hs p = few-by (length z) hs p (omega arith)
+  few-fields = given-all (λ hs. length hs ≤ n) (λ hs h p q e l f. omega (arith, l, length-append hs (h ∷ [])))
+
+  -- each lies in the input
+  pub fields-in : (hs : List Header) (p : ℕ) → Each (HeaderIn (length z)) hs → Each (HeaderIn (length z)) (given (block r n hs z p))
+  fields-in = given-all (Each (HeaderIn (length z))) (λ hs h p q e l f. each-more (HeaderIn (length z)) hs h f (header-in p q h e))

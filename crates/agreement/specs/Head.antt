@@ -1,4 +1,4 @@
--- Requests and responses are read exactly where a start line stands and a header block behind it.
+-- A head is read exactly where its start line stands and a header block behind it.
 -- Assumes nothing.
 use Prim.Native.Nat.{ℕ}
 use mathlib.Core.List.{List, []}
@@ -11,16 +11,9 @@ use Rattle.exact.specs.Judged.{Passes, exact-judged}
 use Rattle.exact.specs.Seq.{Both, exact-seq}
 use Rattle.parts.specs.declared.Error.{Error}
 use Rattle.rules.specs.Rules.{Rules}
-use Rattle.parts.specs.EmptyLines.{start}
-use Rattle.fields.specs.declared.Header.{Header}
 use Rattle.fields.specs.Block.{blockStep}
-use Rattle.requestline.specs.declared.RequestLine.{RequestLine}
-use Rattle.statusline.specs.declared.StatusLine.{StatusLine}
-use Rattle.requestline.specs.RequestLine as request
-use Rattle.statusline.specs.StatusLine as response
 use Rattle.heads.specs.Head.{Known, blockOn, headStep}
 use Rattle.agreement.specs.Block.{Blocked, exact-block}
-use Rattle.agreement.specs.StartLine.{RequestLined, exact-request-line, StatusLined, exact-status-line}
 
 -- what a start line relates, and a block behind it
 abbrev pub Headed : {K : Type 0} → Rules → ℕ → Relation K → Relation (Known K)
@@ -32,9 +25,3 @@ module _ (r : Rules) (n : ℕ) where
       exact-seq (judged pass (λ x. (x .0, (x .1, []))) m) (λ _. ([], fresh)) (blockOn r n m known s) s
       (exact-judged pass (λ x. (x .0, (x .1, []))) m M)
       (λ k. exact-judged (λ hs. pass (k, hs)) (λ x. (x .0, (k, x .1))) (blockStep r n) (exact-block r n))
-
-  pub exact-request : Exact (headStep r n (request.requestLineStep r) request.lineKnown (first start)) (first (first start)) (Headed r n (RequestLined r))
-  exact-request = exact-head (request.requestLineStep r) request.lineKnown (first start) (exact-request-line r)
-
-  pub exact-response : Exact (headStep r n (response.statusLineStep r) response.lineKnown (first start)) (first (first start)) (Headed r n (StatusLined r))
-  exact-response = exact-head (response.statusLineStep r) response.lineKnown (first start) (exact-status-line r)

@@ -6,7 +6,7 @@ use mathlib.Core.Path.{_≡_, refl, sym, ap, subst, _∙_}
 use mathlib.Core.List.{List, [], _∷_, _++_}
 use mathlib.Core.Bool.{Bool, true, false}
 use lib.Dec.{ltb}
-use lib.ListN.{length, take, drop}
+use lib.ListN.{length, take, drop, length-append, length-drop}
 use lib.Seq.{drop-at}
 use borrow.Author.Tests.{ltb-true, ltb-false}
 use Rattle.reader.specs.Answer.{Answer, got, short, bad}
@@ -19,10 +19,11 @@ use Rattle.fields.specs.declared.Header.{Header}
 use Rattle.fields.specs.Slots.{flat, filled, length-flat}
 use Rattle.startline.specs.Answers.{tell}
 use Rattle.heads.specs.Head.{Heads, Known, given, Told}
-use Rattle.agreement.specs.FieldLine.{fieldOf}
-use Rattle.agreement.specs.Fields.{fieldsOf}
-use Rattle.agreement.specs.Known.{fieldsIn}
-use Rattle.agreement.specs.Exactly.{Found, Tells, Exactly}
+use Rattle.agreement.specs.FieldLine.{fieldOf, HeaderIn}
+use Rattle.agreement.specs.Fields.{fieldsOf, Each}
+use Rattle.agreement.specs.Known.{fieldsIn, SlotsInside}
+use Rattle.agreement.specs.Inside.{knownOf}
+use Rattle.agreement.specs.Exactly.{Found, Tells, Exactly, Lies}
 use Rattle.agreement.specs.Promises.{HeadAt, HeadPromise}
 
 -- the slots hold the headers' fields
@@ -38,6 +39,21 @@ kept-behind hs old = drop-at (flat hs) (drop (length hs * 4) old) (length hs * 4
 fields-in : (z : List ℕ) (hs : List Header) (old : List ℕ) → fieldsIn z (length hs) (filled hs old) ≡ fieldsOf z hs
 unfolding filled
 fields-in z hs old = fields-filled z hs (drop (length hs * 4) old)
+
+-- and their places lie where the headers' pieces do
+slots-inside : (e : ℕ) (hs : List Header) (old : List ℕ) → Each (HeaderIn e) hs → SlotsInside e (length hs) (flat hs ++ old)
+unfolding flat
+slots-inside e [] old k = tt
+slots-inside e (h ∷ hs) old k = (k .0 .0, k .0 .1, slots-inside e hs old (k .1))
+
+slots-in : (e : ℕ) (hs : List Header) (old : List ℕ) → Each (HeaderIn e) hs → SlotsInside e (length hs) (filled hs old)
+unfolding filled
+slots-in e hs old k = slots-inside e hs (drop (length hs * 4) old) k
+
+-- as many numbers as before, where the headers fit
+filled-length : (hs : List Header) (old : List ℕ) → length hs ≤ length old / 4 → length (filled hs old) ≡ length old
+unfolding filled
+filled-length hs old l = omega (arith, l, length-append (flat hs) (drop (length hs * 4) old), length-flat hs, length-drop (length hs * 4) old)
 
 -- an answer tells how it ended, and what is known
 module _ {K : Type 0} where
@@ -60,7 +76,7 @@ bad-same e = cc
 bad-more : {x : Error} → Bad x ≡ More → ⊥
 bad-more e = let n : _≡_ {A = ℕ} 0 1 = cc in omega arith
 
-module _ {L K : Type 0} {Head : List ℕ → L → List Field → Type 0} {Says : List ℕ → K → L → Type 0} {s old : List ℕ} {end : Passed} {line : K} {count : ℕ} {new : List ℕ} {read : List ℕ → Heads K} (X : Exactly Head Says (length old / 4) read) (T : Told (read s) end line count old new) where
+module _ {L K : Type 0} {Head : List ℕ → L → List Field → Type 0} {Says : List ℕ → K → L → Type 0} {s old : List ℕ} {end : Passed} {line : K} {count : ℕ} {new : List ℕ} {read : List ℕ → Heads K} {In : ℕ → K → Type 0} (X : Exactly Head Says (length old / 4) read) (Y : Lies In read) (T : Told (read s) end line count old new) where
   -- the slots hold what the reader has given
   in-slots : fieldsIn s count new ≡ fieldsOf s (given (read s))
   in-slots = ap (λ y. fieldsIn s y new) (T .count-is) ∙ ap (fieldsIn s (length (given (read s)))) (T .slots) ∙ fields-in s (given (read s)) old
@@ -119,7 +135,16 @@ module _ {L K : Type 0} {Head : List ℕ → L → List Field → Type 0} {Says 
       by false f = at-more (sym (accept w t l fs i h (ltb-false (length old / 4) (length fs) f) .0) ∙ e)
       by true f = bad-more (sym (overflow w t l fs i h (ltb-true (length old / 4) (length fs) f) .0) ∙ e)
 
-  pub kept : HeadPromise Head Says s old end line count new
+  -- what the call tells of the start line is what the reader knows of it
+  line-told : knownOf (read s) .0 ≡ line
+  line-told = ap (λ (y : Heads K). knownOf y .0) (sym (T .answer)) ∙ by end
+    where
+      by : (end : Passed) → knownOf {K = Known K} {E = Error} (tell end (line, given (read s))) .0 ≡ line
+      by (At q) = refl
+      by More = refl
+      by (Bad x) = refl
+
+  pub kept : HeadPromise Head Says In s old end line count new
   kept = record {
     complete = completes;
     accepts = accept;
@@ -127,6 +152,7 @@ module _ {L K : Type 0} {Head : List ℕ → L → List Field → Type 0} {Says 
     error = errs;
     error-at-all = errs-at-all;
     incomplete = waits;
-    within = subst (λ y. y ≤ length old / 4) (sym (T .count-is)) (X .few s);
+    inside = (subst (In (length s)) line-told (Y .line s), subst (λ y. SlotsInside (length s) y new) (sym (T .count-is)) (subst (SlotsInside (length s) (length (given (read s)))) (sym (T .slots)) (slots-in (length s) (given (read s)) old (Y .fields s))));
+    within = (subst (λ y. y ≤ length old / 4) (sym (T .count-is)) (X .few s), ap length (T .slots) ∙ filled-length (given (read s)) old (X .few s));
     untouched = ap (λ y. drop (y * 4) new) (T .count-is) ∙ ap (drop (length (given (read s)) * 4)) (T .slots) ∙ kept-behind (given (read s)) old ∙ sym (ap (λ y. drop (y * 4) old) (T .count-is));
   }

@@ -1,11 +1,9 @@
--- What a call has told of a start line, in the grammar's words.
+-- What a call has told of a start line and put into the slots, in the grammar's words.
 -- Assumes nothing.
-use Prim.Native.Nat.{ℕ, zero, suc}
+use Prim.Native.Nat.{ℕ, zero, suc, _+_, _≤_}
 use mathlib.Core.Path.{_≡_}
-use mathlib.Core.List.{List, [], _∷_, _++_}
+use mathlib.Core.List.{List, [], _∷_}
 use lib.ListN.{take, drop, getD}
-use Rattle.exact.specs.Exact.{Relation}
-use Rattle.rules.specs.Rules.{Rules}
 use Rattle.grammar.specs.Fields.{Field}
 use Rattle.grammar.specs.Message as grammar
 use Rattle.startline.specs.declared.KnownPiece.{KnownPiece}
@@ -37,26 +35,25 @@ pub record StatusSays (z : List ℕ) (k : StatusLine) (g : grammar.StatusLine) :
   pub code : Counts (k .code) (g .code)
   pub reason : Holds z (k .reason) (g .reason)
 
+-- a known piece ends within the first e bytes
+abbrev pub Inside : ℕ → KnownPiece → Type 0
+Inside e (pieces.Is a) = a .offset + a .length ≤ e
+Inside e pieces.NotYet = Unit {0}
+
+pub record RequestInside (e : ℕ) (k : RequestLine) : Type 0 where
+  pub method : Inside e (k .method)
+  pub target : Inside e (k .target)
+
+pub record StatusInside (e : ℕ) (k : StatusLine) : Type 0 where
+  pub reason : Inside e (k .reason)
+
 -- the fields in the first count slots, four numbers each: where the name is, its length, where the value is, its length
 abbrev pub fieldsIn : List ℕ → ℕ → List ℕ → List Field
 fieldsIn z zero slots = []
 fieldsIn z (suc count) slots =
     record { name = take (getD slots 1 0) (drop (getD slots 0 0) z); value = take (getD slots 3 0) (drop (getD slots 2 0) z) } ∷ fieldsIn z count (drop 4 slots)
 
--- the bytes of a head up to its block, in the grammar's words
-pub record Started {L : Type 0} (r : Rules) (start-line : List ℕ → L → Type 0) (Says : L → Type 0) (w : List ℕ) : Type 0 where
-  pub e : List ℕ
-  pub l : List ℕ
-  pub c : List ℕ
-  pub g : L
-  pub whole : w ≡ e ++ l ++ c
-  pub empty : grammar.empty-lines r e
-  pub line : start-line l g
-  pub ends : grammar.line-end r c
-  pub says : Says g
-
--- what is told of a start line
-pub record LineRead {L K : Type 0} (Says : List ℕ → K → L → Type 0) (G : Relation K) (z : List ℕ) (p : ℕ) (w : List ℕ) (l : L) (rest : List ℕ) : Type 0 where
-  pub k : K
-  pub reads : G p w k rest
-  pub says : Says z k l
+-- the places in the first count slots end within the first e bytes
+abbrev pub SlotsInside : ℕ → ℕ → List ℕ → Type 0
+SlotsInside e zero slots = Unit {0}
+SlotsInside e (suc count) slots = (getD slots 0 0 + getD slots 1 0 ≤ e) × (getD slots 2 0 + getD slots 3 0 ≤ e) × SlotsInside e count (drop 4 slots)

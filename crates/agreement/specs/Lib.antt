@@ -10,6 +10,7 @@ pub mod Fields
 pub mod Starts
 pub mod Steps
 pub mod Known
+pub mod Inside
 pub mod Request
 pub mod Tail
 pub mod Response

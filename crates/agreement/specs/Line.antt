@@ -1,11 +1,9 @@
 -- A line of a header block is read exactly where a field line or an empty line stands.
 -- Assumes nothing.
-use Prim.Native.Nat.{ℕ, _+_, _≤_}
-use native.Mathlib.Omega.{arith}
-use mathlib.Core.Path.{_≡_, refl, sym, ap, _∙_}
+use Prim.Native.Nat.{ℕ}
+use mathlib.Core.Path.{_≡_, refl}
 use mathlib.Core.List.{List, [], _∷_, _++_}
 use mathlib.Core.Bool.{false}
-use lib.ListN.{length, length-append}
 use Rattle.reader.specs.Judged.{Verdict, pass}
 use Rattle.reader.specs.Seq.{first, seq}
 use Rattle.reader.specs.Judged.{judged}

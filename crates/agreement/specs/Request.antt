@@ -26,8 +26,8 @@ use Rattle.agreement.specs.Places.{held, At, at-as, at-first, at-second,
 use Rattle.agreement.specs.Rows.{tokens, in-token}
 use Rattle.agreement.specs.FieldLine.{token-not, no-cr, no-lf, neither}
 use Rattle.agreement.specs.Starts.{Fixed, target-derived, target-read, version-derived, version-read}
-use Rattle.agreement.specs.Steps.{passed-is, apart, together}
-use Rattle.agreement.specs.Known.{RequestSays, Started, LineRead}
+use Rattle.agreement.specs.Steps.{passed-is, apart, together, Started, LineRead}
+use Rattle.agreement.specs.Known.{RequestSays}
 
 -- empty lines, method, target, version, line end, in two ways of grouping
 regroup : (e m s t v c : List ℕ) → e ++ ((m ++ s) ++ ((t ++ s) ++ (v ++ c))) ≡ e ++ (m ++ s ++ t ++ s ++ v) ++ c

@@ -20,8 +20,8 @@ use Rattle.agreement.specs.StartLine.{StatusLined, ReasonEnds}
 use Rattle.agreement.specs.Places.{held, At, at-as, at-first, at-second}
 use Rattle.agreement.specs.FieldLine.{neither}
 use Rattle.agreement.specs.Starts.{Fixed, clash, version-derived, version-read, code-derived, code-read}
-use Rattle.agreement.specs.Steps.{passed-is, apart, together}
-use Rattle.agreement.specs.Known.{StatusSays, Started, LineRead}
+use Rattle.agreement.specs.Steps.{passed-is, apart, together, Started, LineRead}
+use Rattle.agreement.specs.Known.{StatusSays}
 use Rattle.agreement.specs.Tail.{Tail, Parts, parts-line, line-parts, tail-derived, tail-read}
 
 -- empty lines, version, code, what is behind it, line end, in two ways of grouping

@@ -1,12 +1,10 @@
 -- The classes that the machines ask are the grammar's rules for a byte, and so are rows of them.
 -- Assumes nothing.
 use Prim.Native.Nat.{ℕ}
-use mathlib.Core.Path.{_≡_, refl}
 use mathlib.Core.List.{List, [], _∷_, _++_}
-use mathlib.Core.Bool.{Bool, true, false, _||_, false≢true}
-use Rattle.octets.specs.Grammar.{DIGIT, field-vchar, tchar, blank, text}
-use Rattle.octets.specs.Class.{isDigit, isBlank, isToken, isTarget, isValue}
-use Rattle.octets.proofs.Ties.{digit-is-DIGIT, blank-is-blank, token-is-tchar, target-is-field-vchar, value-is-text}
+use Rattle.octets.specs.Grammar.{field-vchar, tchar, blank, text}
+use Rattle.octets.specs.Class.{isBlank, isToken, isTarget, isValue}
+use Rattle.octets.proofs.Ties.{blank-is-blank, token-is-tchar, target-is-field-vchar, value-is-text}
 use Rattle.grammar.specs.Rows.{Many, none, more, Some, some}
 use Rattle.leaves.specs.Rows.{In}
 

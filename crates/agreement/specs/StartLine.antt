@@ -41,7 +41,7 @@ use Rattle.leaves.specs.Status.{Spaced, exact-space, Coded, exact-code}
 use Rattle.leaves.specs.BehindCode.{Behind, exact-behind}
 use Rattle.leaves.specs.Reason.{Reasoned, exact-reason}
 
-no-space : isToken 32 ≡ false
+pub no-space : isToken 32 ≡ false
 unfolding isToken isDigit within among
 no-space = refl
 

@@ -42,9 +42,6 @@ vchar-above (obsolete h) = omega (arith, h .low)
 pub is-solid : {b : ℕ} → field-vchar b → Solid b
 is-solid {b} h = record { value = value-is-text b .1 (text.field h); solid = above-blank b (vchar-above h) }
 
-solid-value : {b : ℕ} → Solid b → In isValue b
-solid-value s = s .value
-
 -- one solid row behind another is one
 core-append : {v w : List ℕ} → Core v → Core w → Core (v ++ w)
 core-append (one a) (one b) = two a none b

@@ -10,8 +10,8 @@ ghost use Rattle.fields.specs.Block.{block, Told as BlockTold};
 ghost use Rattle.heads.specs.Head.{Told};
 ghost use Rattle.heads.specs.Calls.{request as requestOf, response as responseOf};
 ghost use Rattle.chunks.specs.Chunk.{chunk, sizeOf};
-ghost use Rattle.agreement.specs.Known.{RequestSays, StatusSays};
-ghost use Rattle.agreement.specs.Promises.{HeadPromise, block-alone, says-nothing, ChunkPromise};
+ghost use Rattle.agreement.specs.Known.{RequestSays, StatusSays, RequestInside, StatusInside};
+ghost use Rattle.agreement.specs.Promises.{HeadPromise, block-alone, says-nothing, lies-nowhere, ChunkPromise};
 use chunks::ChunkSize;
 use fields::Block;
 use heads::RequestHead;
@@ -20,21 +20,21 @@ use heads::ResponseHead;
 // A header takes four numbers of `slots`: where its name is, the name's length, where its value is, the value's length.
 pub fn request(s: &[u8], slots: &mut [usize]) -> RequestHead
     ensures { λ r. ⌜ Told (requestOf default (length (now (slots .entry)) / 4) (now (s .entry))) (r .end) (r .line) (r .count) (now (slots .entry)) (now (slots .exit)) ⌝ }
-    ensures { λ r. ⌜ HeadPromise (request-head default) RequestSays (now (s .entry)) (now (slots .entry)) (r .end) (r .line) (r .count) (now (slots .exit)) ⌝ }
+    ensures { λ r. ⌜ HeadPromise (request-head default) RequestSays RequestInside (now (s .entry)) (now (slots .entry)) (r .end) (r .line) (r .count) (now (slots .exit)) ⌝ }
 {
     heads::request(s, slots)
 }
 
 pub fn response(s: &[u8], slots: &mut [usize]) -> ResponseHead
     ensures { λ r. ⌜ Told (responseOf default (length (now (slots .entry)) / 4) (now (s .entry))) (r .end) (r .line) (r .count) (now (slots .entry)) (now (slots .exit)) ⌝ }
-    ensures { λ r. ⌜ HeadPromise (response-head default) StatusSays (now (s .entry)) (now (slots .entry)) (r .end) (r .line) (r .count) (now (slots .exit)) ⌝ }
+    ensures { λ r. ⌜ HeadPromise (response-head default) StatusSays StatusInside (now (s .entry)) (now (slots .entry)) (r .end) (r .line) (r .count) (now (slots .exit)) ⌝ }
 {
     heads::response(s, slots)
 }
 
 pub fn headers(s: &[u8], slots: &mut [usize]) -> Block
     ensures { λ r. ⌜ BlockTold (block default (length (now (slots .entry)) / 4) [] (now (s .entry)) 0) r (now (slots .entry)) (now (slots .exit)) ⌝ }
-    ensures { λ r. ⌜ HeadPromise block-alone says-nothing (now (s .entry)) (now (slots .entry)) (r .end) tt (r .count) (now (slots .exit)) ⌝ }
+    ensures { λ r. ⌜ HeadPromise block-alone says-nothing lies-nowhere (now (s .entry)) (now (slots .entry)) (r .end) tt (r .count) (now (slots .exit)) ⌝ }
 {
     heads::headers(s, slots)
 }

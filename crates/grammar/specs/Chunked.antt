@@ -1,4 +1,4 @@
--- The line before a chunk of a body: RFC 9112, section 7.1.
+-- The line before a chunk of a body: RFC 9112, section 7.1. Left out are the bytes of a chunk and the trailer section.
 -- Assumes nothing.
 use Prim.Native.Nat.{ℕ, _+_, _-_, _*_, _≤_}
 use mathlib.Core.Path.{_≡_}
@@ -10,6 +10,7 @@ use Rattle.octets.specs.Grammar as bytes
 use Rattle.rules.specs.Rules.{Rules}
 use Rattle.grammar.specs.Rows.{Many}
 use Rattle.grammar.specs.Fields.{token, OWS, BWS, quoted-string}
+use Rattle.grammar.specs.Message.{CRLF}
 
 abbrev pub semicolon : List ℕ
 semicolon = 0x3B ∷ []
@@ -33,16 +34,20 @@ pub data chunk-size (r : Rules) : List ℕ → ℕ → Type 0 where
   digits : {w : List ℕ} {n : ℕ} → hexadecimal w n → 1 ≤ length w → (r .sixteen-digits ≡ true → length w ≤ 16) → chunk-size r w n
   no-digit : r .no-digit ≡ true → chunk-size r [] 0
 
+-- 7.1.1: chunk-ext-name = token
+abbrev pub chunk-ext-name : List ℕ → Type 0
+chunk-ext-name = token
+
 -- 7.1.1: chunk-ext-val = token / quoted-string
 pub data chunk-ext-val (w : List ℕ) : Type 0 where
   word : token w → chunk-ext-val w
   string : quoted-string w → chunk-ext-val w
 
--- 7.1.1: *( BWS ";" BWS chunk-ext-name [ BWS "=" BWS chunk-ext-val ] ), where chunk-ext-name = token
+-- 7.1.1: *( BWS ";" BWS chunk-ext-name [ BWS "=" BWS chunk-ext-val ] )
 pub data chunk-ext : List ℕ → Type 0 where
   none : chunk-ext []
-  name : {a b n x : List ℕ} → BWS a → BWS b → token n → chunk-ext x → chunk-ext (a ++ semicolon ++ b ++ n ++ x)
-  value : {a b n c d v x : List ℕ} → BWS a → BWS b → token n → BWS c → BWS d → chunk-ext-val v → chunk-ext x → chunk-ext (a ++ semicolon ++ b ++ n ++ c ++ equals ++ d ++ v ++ x)
+  name : {a b n x : List ℕ} → BWS a → BWS b → chunk-ext-name n → chunk-ext x → chunk-ext (a ++ semicolon ++ b ++ n ++ x)
+  value : {a b n c d v x : List ℕ} → BWS a → BWS b → chunk-ext-name n → BWS c → BWS d → chunk-ext-val v → chunk-ext x → chunk-ext (a ++ semicolon ++ b ++ n ++ c ++ equals ++ d ++ v ++ x)
 
 -- what stands between a size and its line's end
 pub data behind-size (r : Rules) : List ℕ → Type 0 where
@@ -52,4 +57,4 @@ pub data behind-size (r : Rules) : List ℕ → Type 0 where
 
 -- 7.1: chunk-size [ chunk-ext ] CRLF, the line before a chunk's bytes, and the last chunk's line; and the size
 pub data chunk-line (r : Rules) : List ℕ → ℕ → Type 0 where
-  line : {s x : List ℕ} {n : ℕ} → chunk-size r s n → behind-size r x → chunk-line r (s ++ x ++ (0x0D ∷ 0x0A ∷ [])) n
+  line : {s x : List ℕ} {n : ℕ} → chunk-size r s n → behind-size r x → chunk-line r (s ++ x ++ CRLF) n

@@ -1,4 +1,5 @@
--- Names and values of fields: RFC 9110, sections 5.1, 5.5 and 5.6, over its bytes in octets/specs/Grammar.antt.
+-- Names and values of fields: RFC 9110, sections 5.1, 5.5 and 5.6, over its bytes in octets/specs/Grammar.antt. RWS is left out, since
+-- nothing that is read here needs it.
 -- Assumes nothing.
 use Prim.Native.Nat.{ℕ}
 use mathlib.Core.List.{List, [], _∷_, _++_}
@@ -17,22 +18,26 @@ OWS = Many blank
 abbrev pub BWS : List ℕ → Type 0
 BWS = OWS
 
--- 5.6.4: a byte that stands for itself between quotation marks: all text but the mark and the backslash
+-- 5.6.4: a byte that stands for itself between quotation marks: any text byte but the quotation mark and the backslash
 pub data qdtext (b : ℕ) : Type 0 where
   tab : HTAB b → qdtext b
   space : SP b → qdtext b
-  mark : Range 0x21 0x21 b → qdtext b
-  below : Range 0x23 0x5B b → qdtext b
-  above : Range 0x5D 0x7E b → qdtext b
+  exclamation-mark : Range 0x21 0x21 b → qdtext b
+  before-backslash : Range 0x23 0x5B b → qdtext b
+  behind-backslash : Range 0x5D 0x7E b → qdtext b
   obsolete : obs-text b → qdtext b
 
--- 5.6.4: *( qdtext / quoted-pair ), where a pair is a backslash and any text byte
+-- 5.6.4: a backslash and any text byte, which then stands for itself
+pub data quoted-pair : List ℕ → Type 0 where
+  pair : {b : ℕ} → text b → quoted-pair (0x5C ∷ b ∷ [])
+
+-- 5.6.4: *( qdtext / quoted-pair )
 pub data quoted : List ℕ → Type 0 where
   none : quoted []
   plain : {b : ℕ} {w : List ℕ} → qdtext b → quoted w → quoted (b ∷ w)
-  pair : {b : ℕ} {w : List ℕ} → text b → quoted w → quoted (0x5C ∷ b ∷ w)
+  escaped : {p w : List ℕ} → quoted-pair p → quoted w → quoted (p ++ w)
 
--- 5.6.4: what stands between two quotation marks, and they
+-- 5.6.4: DQUOTE *( qdtext / quoted-pair ) DQUOTE
 pub data quoted-string : List ℕ → Type 0 where
   marks : {w : List ℕ} → quoted w → quoted-string ((0x22 ∷ w) ++ (0x22 ∷ []))
 

@@ -1,4 +1,5 @@
--- The head of a message: RFC 9112, sections 2 to 5, over the rules of a reading.
+-- The head of a message: RFC 9112, sections 2 to 5, over the rules of a reading. Left out are the body, and obs-fold (5.2), which no
+-- reading takes yet.
 -- Assumes nothing.
 use Prim.Native.Nat.{ℕ, _+_, _-_, _*_}
 use mathlib.Core.Path.{_≡_}
@@ -17,9 +18,13 @@ space = 0x20 ∷ []
 abbrev pub colon : List ℕ
 colon = 0x3A ∷ []
 
--- 2.1 and 2.2: a line ends in CR LF
+-- RFC 5234, B.1: CR LF
+abbrev pub CRLF : List ℕ
+CRLF = 0x0D ∷ 0x0A ∷ []
+
+-- 2.1 and 2.2: a line ends in CR LF, or in LF alone
 pub data line-end (r : Rules) : List ℕ → Type 0 where
-  crlf : line-end r (0x0D ∷ 0x0A ∷ [])
+  crlf : line-end r CRLF
   lf : r .lf-alone ≡ true → line-end r (0x0A ∷ [])
 
 -- 2.2: lines with nothing in them, before a head
@@ -45,7 +50,7 @@ pub data HTTP-version (r : Rules) : List ℕ → Version → Type 0 where
 abbrev pub method : List ℕ → Type 0
 method = token
 
--- 3.2: one of four forms, which all are rows of visible characters
+-- 3.2: one of four forms, all of which are rows of visible characters: no more than that is asked of them here
 pub data request-target (r : Rules) : List ℕ → Type 0 where
   visible : {w : List ℕ} → Some VCHAR w → request-target r w
   any : {w : List ℕ} → r .any-target ≡ true → Some field-vchar w → UTF8-octets w → request-target r w
@@ -95,7 +100,7 @@ pub data header-block (r : Rules) : List ℕ → List Field → Type 0 where
   end : {e : List ℕ} → line-end r e → header-block r e []
   field : {w e b : List ℕ} {f : Field} {fs : List Field} → field-line w f → line-end r e → header-block r b fs → header-block r (w ++ e ++ b) (f ∷ fs)
 
--- 2.1: start-line CRLF *( field-line CRLF ) CRLF, whatever the start line is
+-- 2.1: HTTP-message without its body: start-line CRLF *( field-line CRLF ) CRLF, whatever the start line is
 pub data head (r : Rules) {L : Type 0} (start-line : List ℕ → L → Type 0) : List ℕ → L → List Field → Type 0 where
   message : {e w c b : List ℕ} {l : L} {fs : List Field} → empty-lines r e → start-line w l → line-end r c → header-block r b fs → head r start-line (e ++ w ++ c ++ b) l fs
 

@@ -1,6 +1,6 @@
 // The arguments: request|response|headers|chunk [--raw] [FILE].
 use libc::STDERR_FILENO;
-use reading::Kind;
+use wording::Kind;
 
 // What to read, whether for a script, and which argument names the file, 0 for none; or the call was refused with a message.
 pub enum Call {

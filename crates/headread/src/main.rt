@@ -8,7 +8,7 @@ use libc::STDERR_FILENO;
 use libc::STDOUT_FILENO;
 use page::place::part;
 use page::text::Page;
-use reading::Kind;
+use wording::Kind;
 
 fn main() {
     let call = arguments::asked();

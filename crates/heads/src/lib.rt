@@ -1,4 +1,4 @@
-// The public calls: a request, a response, and a block of headers alone. They demand nothing of the caller.
+// A request, a response, and a block of headers alone, each equal to its reader. They demand nothing of the caller.
 ghost use mathlib.Core.List.{[]};
 ghost use Prim.Native.Nat.{_/_};
 ghost use lib.ListN.{length};

@@ -8,11 +8,11 @@ use mathlib.Core.List.{List, [], _∷_, _++_}
 use mathlib.Core.Bool.{Bool, true, false, _&&_, _||_, false≢true}
 use Rattle.octets.specs.Grammar as bytes
 use Rattle.octets.specs.Class.{within, isToken, isTarget, isValue}
-use Rattle.octets.proofs.Ties.{in-range, token-is-tchar, target-is-field-vchar, value-is-text}
-use Rattle.rules.specs.Rules.{Rules, strict}
+use Rattle.octets.proofs.Ties.{in-range, target-is-field-vchar}
+use Rattle.rules.specs.Rules.{Rules}
 use Rattle.grammar.specs.Rows.{Many, none, more, Some, some}
 use Rattle.grammar.specs.Fields.{token, field-value, Field}
-use Rattle.grammar.specs.Message.{space, colon, crlf, Version, HTTP-version, request-target, RequestLine, status-code, plain-text, StatusLine, header-block, request-head, response-head}
+use Rattle.grammar.specs.Message.{space, colon, CRLF, crlf, request-target, status-code, plain-text, header-block, request-head, response-head}
 use Rattle.grammar.specs.Message as grammar
 use Rattle.leaves.specs.Rows.{In, both-true}
 use Rattle.leaves.specs.Value.{Solid, Core, one, two}
@@ -86,7 +86,7 @@ a-value w h = core-value (core-of (ascii w) h)
 pub a-target : {r : Rules} (w : String) → some-all (within 0x21 0x7E) (ascii w) ≡ true → request-target r (ascii w)
 a-target w h = grammar.request-target.visible (some-as (λ b. in-range 0x21 0x7E b) (some-row (within 0x21 0x7E) (ascii w) h))
 
--- letters and spaces between them
+-- a visible character or a space
 abbrev pub plain : ℕ → Bool
 plain b = within 0x20 0x20 b || within 0x21 0x7E b
 
@@ -99,27 +99,24 @@ pub a-reason : {r : Rules} (w : String) → some-all plain (ascii w) ≡ true �
 a-reason w h = grammar.reason-phrase.plain (some-as (λ b. plain-is b (within 0x20 0x20 b) (within 0x21 0x7E b) refl refl) (some-row plain (ascii w) h))
 
 -- the lines of a head
-abbrev pub line-break : List ℕ
-line-break = 0x0D ∷ 0x0A ∷ []
-
-pub the-end : {r : Rules} → header-block r line-break []
+pub the-end : {r : Rules} → header-block r CRLF []
 the-end = grammar.header-block.end crlf
 
-pub a-field : {r : Rules} (n v : String) → some-all isToken (ascii n) ≡ true → solid (ascii v) ≡ true → {b : List ℕ} {fs : List Field} → header-block r b fs → header-block r (ascii n ++ colon ++ space ++ ascii v ++ [] ++ line-break ++ b) (record { name = ascii n; value = ascii v } ∷ fs)
+pub a-field : {r : Rules} (n v : String) → some-all isToken (ascii n) ≡ true → solid (ascii v) ≡ true → {b : List ℕ} {fs : List Field} → header-block r b fs → header-block r (ascii n ++ colon ++ space ++ ascii v ++ [] ++ CRLF ++ b) (record { name = ascii n; value = ascii v } ∷ fs)
 a-field n v h k b = grammar.header-block.field (grammar.field-line.line (a-token n h) (more (bytes.blank.space refl) none) (a-value v k) none) crlf b
 
-pub a-request : {r : Rules} (m t : String) → some-all isToken (ascii m) ≡ true → some-all (within 0x21 0x7E) (ascii t) ≡ true → {b : List ℕ} {fs : List Field} → header-block r b fs → request-head r (ascii m ++ space ++ ascii t ++ space ++ ascii "HTTP/1.1" ++ line-break ++ b) (record { method = ascii m; target = ascii t; version = record { major = 1; minor = 1 } }) fs
+pub a-request : {r : Rules} (m t : String) → some-all isToken (ascii m) ≡ true → some-all (within 0x21 0x7E) (ascii t) ≡ true → {b : List ℕ} {fs : List Field} → header-block r b fs → request-head r (ascii m ++ space ++ ascii t ++ space ++ ascii "HTTP/1.1" ++ CRLF ++ b) (record { method = ascii m; target = ascii t; version = record { major = 1; minor = 1 } }) fs
 a-request m t h k b = grammar.head.message grammar.empty-lines.none (grammar.request-line.line (a-token m h) (a-target t k) grammar.one-one) crlf b
 
 -- three digits, of which the first is from 1 to 5
 abbrev pub digits : ℕ → ℕ → ℕ → Bool
 digits x y z = within 0x31 0x35 (0x30 + x) && within 0x30 0x39 (0x30 + y) && within 0x30 0x39 (0x30 + z)
 
-a-code : {r : Rules} (x y z : ℕ) → digits x y z ≡ true → status-code r ((0x30 + x) ∷ (0x30 + y) ∷ (0x30 + z) ∷ []) ((0x30 + x - 0x30) * 100 + (0x30 + y - 0x30) * 10 + (0x30 + z - 0x30))
+pub a-code : {r : Rules} (x y z : ℕ) → digits x y z ≡ true → status-code r ((0x30 + x) ∷ (0x30 + y) ∷ (0x30 + z) ∷ []) ((0x30 + x - 0x30) * 100 + (0x30 + y - 0x30) * 10 + (0x30 + z - 0x30))
 a-code x y z h =
     let k = both-true (within 0x31 0x35 (0x30 + x) && within 0x30 0x39 (0x30 + y)) (within 0x30 0x39 (0x30 + z)) h in
     let l = both-true (within 0x31 0x35 (0x30 + x)) (within 0x30 0x39 (0x30 + y)) (k .0) in
     grammar.status-code.class (in-range 0x31 0x35 (0x30 + x) (l .0)) (in-range 0x30 0x39 (0x30 + y) (l .1)) (in-range 0x30 0x39 (0x30 + z) (k .1))
 
-pub a-response : {r : Rules} (x y z : ℕ) (w : String) → digits x y z ≡ true → some-all plain (ascii w) ≡ true → {b : List ℕ} {fs : List Field} → header-block r b fs → response-head r (ascii "HTTP/1.1" ++ space ++ ((0x30 + x) ∷ (0x30 + y) ∷ (0x30 + z) ∷ []) ++ space ++ ascii w ++ line-break ++ b) (record { version = record { major = 1; minor = 1 }; code = (0x30 + x - 0x30) * 100 + (0x30 + y - 0x30) * 10 + (0x30 + z - 0x30); reason = ascii w }) fs
+pub a-response : {r : Rules} (x y z : ℕ) (w : String) → digits x y z ≡ true → some-all plain (ascii w) ≡ true → {b : List ℕ} {fs : List Field} → header-block r b fs → response-head r (ascii "HTTP/1.1" ++ space ++ ((0x30 + x) ∷ (0x30 + y) ∷ (0x30 + z) ∷ []) ++ space ++ ascii w ++ CRLF ++ b) (record { version = record { major = 1; minor = 1 }; code = (0x30 + x - 0x30) * 100 + (0x30 + y - 0x30) * 10 + (0x30 + z - 0x30); reason = ascii w }) fs
 a-response x y z w h k b = grammar.head.message grammar.empty-lines.none (grammar.status-line.reason grammar.one-one (a-code x y z h) (a-reason w k)) crlf b

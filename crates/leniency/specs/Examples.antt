@@ -1,15 +1,24 @@
--- Examples of the RFCs, each derived by the strict grammar, with the fields that a reader of the RFC expects.
+-- Examples of the RFCs, each derived under `strict`, with the fields that one expects; and what no example of theirs shows.
 -- Assumes nothing.
 use Prim.Native.Nat.{ℕ}
 use Prim.Native.String.{String}
 use mathlib.Core.Path.{_≡_, refl}
-use mathlib.Core.List.{List, [], _∷_}
+use native.Mathlib.Omega.{arith}
+use mathlib.Core.List.{List, [], _∷_, _++_}
+use mathlib.Core.Bool.{false≢true}
 use Rattle.octets.specs.Class.{among, within, isDigit, isBlank, isToken, isTarget, isValue}
+use Rattle.octets.specs.Grammar as bytes
+use Rattle.octets.proofs.Ties.{in-range}
 use Rattle.rules.specs.Rules.{strict}
+use Rattle.grammar.specs.Rows.{none, more, some}
 use Rattle.grammar.specs.Fields.{Field}
+use Rattle.grammar.specs.Fields as fields
 use Rattle.grammar.specs.Message.{RequestLine, StatusLine, request-head, response-head}
+use Rattle.grammar.specs.Message as grammar
+use Rattle.grammar.specs.Chunked.{chunk-line}
+use Rattle.grammar.specs.Chunked as chunked
 use Rattle.leniency.specs.Text.{ascii}
-use Rattle.leniency.specs.Builders.{the-end, a-field, a-request, a-response}
+use Rattle.leniency.specs.Builders.{a-token, a-target, a-code, the-end, a-field, a-request, a-response}
 
 abbrev asks : String → String → RequestLine
 asks method target = record { method = ascii method; target = ascii target; version = record { major = 1; minor = 1 } }
@@ -79,3 +88,40 @@ partial = a-response 2 0 6 "Partial Content" refl refl (a-field "Date" "Wed, 15 
 pub required : response-head strict (ascii "HTTP/1.1 426 Upgrade Required\r\nUpgrade: HTTP/3.0\r\nConnection: Upgrade\r\nContent-Length: 53\r\nContent-Type: text/plain\r\n\r\n") (answers 426 "Upgrade Required") (field "Upgrade" "HTTP/3.0" ∷ field "Connection" "Upgrade" ∷ field "Content-Length" "53" ∷ field "Content-Type" "text/plain" ∷ [])
 unfolding isToken isTarget isValue isBlank isDigit within among
 required = a-response 4 2 6 "Upgrade Required" refl refl (a-field "Upgrade" "HTTP/3.0" refl refl (a-field "Connection" "Upgrade" refl refl (a-field "Content-Length" "53" refl refl (a-field "Content-Type" "text/plain" refl refl the-end))))
+
+-- what the examples do not show: a version that is not known, and a field with no value
+pub other-version : request-head strict (ascii "GET / HTTP/2.3\r\nHost:\r\n\r\n") (record { method = ascii "GET"; target = ascii "/"; version = record { major = 2; minor = 3 } }) (field "Host" "" ∷ [])
+unfolding isToken isDigit within among
+other-version =
+    grammar.head.message grammar.empty-lines.none
+    (grammar.request-line.line (a-token "GET" refl) (a-target "/" refl) (grammar.HTTP-version.other {a = 0x32} {b = 0x33} refl (in-range 0x30 0x39 0x32 refl) (in-range 0x30 0x39 0x33 refl))) grammar.crlf
+    (grammar.header-block.field (grammar.field-line.line (a-token "Host" refl) none fields.field-value.none none) grammar.crlf the-end)
+
+-- a reason and a value with bytes from 0x80 on; in the value a tab stands between two of them
+abbrev accents : List ℕ
+accents = 0xE9 ∷ 0x09 ∷ 0xE8 ∷ []
+
+pub obsolete-text : response-head strict (ascii "HTTP/1.1 404 " ++ (0xE9 ∷ []) ++ ascii "\r\nA:\t" ++ accents ++ ascii " \r\n\r\n") (record { version = record { major = 1; minor = 1 }; code = 404; reason = 0xE9 ∷ [] }) (record { name = ascii "A"; value = accents } ∷ [])
+unfolding isToken isDigit within among
+obsolete-text =
+    grammar.head.message grammar.empty-lines.none
+    (grammar.status-line.reason grammar.one-one (a-code 4 0 4 refl) (grammar.reason-phrase.whole refl (some (bytes.text.field (bytes.obsolete (in-range 0x80 0xFF 0xE9 refl))) none))) grammar.crlf
+    (grammar.header-block.field
+    (grammar.field-line.line (a-token "A" refl) (more (bytes.blank.tab refl) none)
+    (fields.field-value.more (fields.field-content.more (bytes.obsolete (in-range 0x80 0xFF 0xE9 refl)) (some (bytes.text.white (bytes.blank.tab refl)) none) (bytes.obsolete (in-range 0x80 0xFF 0xE8 refl))) fields.field-value.none)
+    (more (bytes.blank.space refl) none)) grammar.crlf the-end)
+
+-- a chunk of five bytes with two extensions: a quoted string with a sharp sign and an escaped quotation mark, and a token among blanks
+pub extensions : chunk-line strict (ascii "5;a=\"b#\\\"c\";d = e\r\n") 5
+unfolding isToken isDigit within among
+extensions =
+    chunked.chunk-line.line (chunked.chunk-size.digits (chunked.hexadecimal.more chunked.hexadecimal.none (bytes.HEXDIG.digit (in-range 0x30 0x39 0x35 refl))) (omega arith) (λ t. absurd (false≢true t)))
+    (chunked.behind-size.extension
+    (chunked.chunk-ext.value none none (a-token "a" refl) none none
+    (chunked.chunk-ext-val.string
+    (fields.quoted-string.marks
+    (fields.quoted.plain (fields.qdtext.behind-backslash (in-range 0x5D 0x7E 0x62 refl))
+    (fields.quoted.plain (fields.qdtext.before-backslash (in-range 0x23 0x5B 0x23 refl))
+    (fields.quoted.escaped (fields.quoted-pair.pair (bytes.text.field (bytes.visible (in-range 0x21 0x7E 0x22 refl))))
+    (fields.quoted.plain (fields.qdtext.behind-backslash (in-range 0x5D 0x7E 0x63 refl)) fields.quoted.none))))))
+    (chunked.chunk-ext.value none none (a-token "d" refl) (more (bytes.blank.space refl) none) (more (bytes.blank.space refl) none) (chunked.chunk-ext-val.word (a-token "e" refl)) chunked.chunk-ext.none)))

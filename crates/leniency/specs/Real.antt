@@ -1,32 +1,34 @@
--- Each rule makes a difference: a byte string that is derivable with it and not without it, the input of its entry in docs/DIFFERENCES.md.
+-- Each rule makes a difference: a byte string of its entry in docs/DIFFERENCES.md is derivable with the rule and not without it; with a
+-- restriction it is the other way round, and obs-reason changes what is given.
 -- Assumes nothing.
 use Prim.Native.Nat.{ℕ, _+_, _*_, _≤_}
 use native.Mathlib.Omega.{arith}
-use mathlib.Core.Path.{_≡_, refl, sym, ap, subst, _∙_}
+use mathlib.Core.Path.{_≡_, refl, sym, ap, _∙_}
 use mathlib.Core.List.{List, [], _∷_, _++_, append-assoc}
-use mathlib.Core.Bool.{Bool, true, false, not, false≢true}
+use mathlib.Core.Bool.{Bool, true, false, false≢true}
 use lib.Dec.{eqb}
 use lib.ListN.{length}
 use borrow.Author.Tests.{eqb-false}
-use Rattle.reader.specs.Machine.{gave, refused, run}
-use Rattle.octets.specs.Grammar.{Range, DIGIT, HEXDIG, VCHAR, blank, tchar, text}
+use Rattle.reader.specs.Machine.{refused, run}
+use Rattle.octets.specs.Grammar.{DIGIT, HEXDIG, blank, tchar}
 use Rattle.octets.specs.Grammar as bytes
 use Rattle.octets.specs.Class.{among, within, isDigit, isHexDigit, isBlank, isToken}
 use Rattle.octets.proofs.Ties.{in-range, token-is-tchar, blank-is-blank, hex-digit-is-HEXDIG}
 use Rattle.utf8.specs.Grammar as characters
-use Rattle.rules.specs.Rules.{Rules, strict, default}
+use Rattle.rules.specs.Rules.{Rules, default}
 use Rattle.grammar.specs.Rows.{Many, none, more, Some, some}
 use Rattle.grammar.specs.Fields.{Field}
-use Rattle.grammar.specs.Message.{line-end, crlf, lf, empty-lines, Version, HTTP-version, one-zero, one-one, other, request-target, RequestLine, request-line, status-code, reason-phrase, StatusLine, status-line, field-line, header-block, head, request-head, response-head}
+use Rattle.grammar.specs.Message.{CRLF, line-end, crlf, lf, empty-lines, Version, HTTP-version, one-zero, one-one, other, request-target, RequestLine, request-line, status-code, reason-phrase, StatusLine, status-line, field-line, header-block, head, request-head, response-head}
 use Rattle.grammar.specs.Message as grammar
 use Rattle.grammar.specs.Chunked.{hexadecimal, chunk-size, chunk-ext, behind-size, chunk-line}
 use Rattle.grammar.specs.Chunked as chunked
 use Rattle.chunks.specs.Chunk.{digits, chunkStep}
+use Rattle.agreement.specs.Starts.{clash}
 use Rattle.agreement.specs.Chunk.{chunk-read}
-use Rattle.agreement.specs.Tail.{Tail, Parts, line-parts}
+use Rattle.agreement.specs.Tail.{Tail, line-parts}
 use Rattle.agreement.specs.Tail as tails
 use Rattle.leniency.specs.Text.{ascii}
-use Rattle.leniency.specs.Strict.{hexadecimal-row}
+use Rattle.leniency.specs.Strict.{hexadecimal-row, size-row}
 
 -- with the rule it is derivable, whatever the other rules are, and without it it is not
 abbrev Real : (Rules → Bool) → (Rules → Type 0) → Type 0
@@ -47,12 +49,6 @@ Headers w r = (fs : List Field) × header-block r w fs
 
 abbrev Chunk : List ℕ → Rules → Type 0
 Chunk w r = (n : ℕ) × chunk-line r w n
-
-clash : {t : Bool} → t ≡ true → t ≡ false → ⊥
-clash h k = false≢true (sym k ∙ h)
-
-apart : (a b : ℕ) → eqb a b ≡ false → a ≡ b → ⊥
-apart a b h e = eqb-false a b h e
 
 -- a byte that no token has
 no-token : {b c : ℕ} → isToken c ≡ false → tchar b → b ≡ c → ⊥
@@ -274,14 +270,6 @@ any-target-real = (
   λ r f d. no-accent f (d .2) (0x80 ∷ ascii " HTTP/1.0\r\n\r\n") refl,
 )
 
--- the bytes of a chunk size line
-abbrev line-break : List ℕ
-line-break = 13 ∷ 10 ∷ []
-
-size-row : {r : Rules} {s : List ℕ} {n : ℕ} → chunk-size r s n → Many HEXDIG s
-size-row (chunked.chunk-size.digits h l f) = hexadecimal-row h
-size-row (chunked.chunk-size.no-digit t) = none
-
 not-digit : {b : ℕ} (c : ℕ) → isHexDigit c ≡ false → HEXDIG b → b ≡ c → ⊥
 not-digit {b} c f h e = clash (hex-digit-is-HEXDIG b .1 h) (ap isHexDigit e ∙ f)
 
@@ -304,17 +292,17 @@ begins b f g h (chunked.behind-size.any t none w) zs ys e = eqb-false 59 b g (sa
 begins b f g h (chunked.behind-size.any t (more y l) w) zs ys e = not-blank b f y (same-head e)
 
 -- a line that starts with the digit 0 and another byte that is none: what is behind the size
-behind-zero : {r : Rules} {s x : List ℕ} {n : ℕ} (b : ℕ) (ys : List ℕ) → isHexDigit b ≡ false → chunk-size r s n → behind-size r x → s ++ x ++ line-break ≡ 48 ∷ b ∷ ys → x ++ line-break ≡ b ∷ ys
+behind-zero : {r : Rules} {s x : List ℕ} {n : ℕ} (b : ℕ) (ys : List ℕ) → isHexDigit b ≡ false → chunk-size r s n → behind-size r x → s ++ x ++ CRLF ≡ 48 ∷ b ∷ ys → x ++ CRLF ≡ b ∷ ys
 unfolding isBlank among
 behind-zero {r} {s} {x} b ys f k d e = by (size-row k) e
   where
-    by : {s : List ℕ} → Many HEXDIG s → s ++ x ++ line-break ≡ 48 ∷ b ∷ ys → x ++ line-break ≡ b ∷ ys
+    by : {s : List ℕ} → Many HEXDIG s → s ++ x ++ CRLF ≡ 48 ∷ b ∷ ys → x ++ CRLF ≡ b ∷ ys
     by none q = absurd (begins 48 refl refl refl d (10 ∷ []) (b ∷ ys) q)
     by (more h none) q = same-tail q
     by (more h (more g l)) q = absurd (not-digit b f g (same-head (same-tail q)))
 
 -- blank-behind-size
-no-blanks : {r : Rules} {x : List ℕ} → r .blank-behind-size ≡ false → behind-size r x → x ++ line-break ≡ 32 ∷ 13 ∷ 10 ∷ [] → ⊥
+no-blanks : {r : Rules} {x : List ℕ} → r .blank-behind-size ≡ false → behind-size r x → x ++ CRLF ≡ 32 ∷ 13 ∷ 10 ∷ [] → ⊥
 unfolding isBlank among
 no-blanks f (chunked.behind-size.extension chunked.chunk-ext.none) e = eqb-false 13 32 refl (same-head e)
 no-blanks f (chunked.behind-size.extension (chunked.chunk-ext.name none k m x)) e = eqb-false 59 32 refl (same-head e)
@@ -351,12 +339,12 @@ unfolding isBlank isToken isDigit within among
 no-names none (some h k) zs ys e = not-token 13 refl h (same-head e)
 no-names (more h l) k zs ys e = not-blank 13 refl h (same-head e)
 
-no-extension : {r : Rules} {x : List ℕ} → r .any-extension ≡ false → behind-size r x → x ++ line-break ≡ 59 ∷ 13 ∷ 10 ∷ [] → ⊥
+no-extension : {r : Rules} {x : List ℕ} → r .any-extension ≡ false → behind-size r x → x ++ CRLF ≡ 59 ∷ 13 ∷ 10 ∷ [] → ⊥
 unfolding isBlank among
 no-extension f (chunked.behind-size.extension chunked.chunk-ext.none) e = eqb-false 13 59 refl (same-head e)
-no-extension f (chunked.behind-size.extension (chunked.chunk-ext.name {b = b} {n = n} {x = x} none k m y)) e = let q : b ++ n ++ x ++ line-break ≡ 13 ∷ 10 ∷ [] = same-tail e in no-names k m (x ++ line-break) (10 ∷ []) (simp append-assoc at q)
+no-extension f (chunked.behind-size.extension (chunked.chunk-ext.name {b = b} {n = n} {x = x} none k m y)) e = let q : b ++ n ++ x ++ CRLF ≡ 13 ∷ 10 ∷ [] = same-tail e in no-names k m (x ++ CRLF) (10 ∷ []) (simp append-assoc at q)
 no-extension f (chunked.behind-size.extension (chunked.chunk-ext.name (more y l) k m x)) e = not-blank 59 refl y (same-head e)
-no-extension f (chunked.behind-size.extension (chunked.chunk-ext.value {b = b} {n = n} {c = c} {d = d} {v = v} {x = x} none k m i j u y)) e = let q : b ++ n ++ c ++ chunked.equals ++ d ++ v ++ x ++ line-break ≡ 13 ∷ 10 ∷ [] = same-tail e in no-names k m (c ++ (chunked.equals ++ (d ++ (v ++ (x ++ line-break))))) (10 ∷ []) (simp append-assoc at q)
+no-extension f (chunked.behind-size.extension (chunked.chunk-ext.value {b = b} {n = n} {c = c} {d = d} {v = v} {x = x} none k m i j u y)) e = let q : b ++ n ++ c ++ chunked.equals ++ d ++ v ++ x ++ CRLF ≡ 13 ∷ 10 ∷ [] = same-tail e in no-names k m (c ++ (chunked.equals ++ (d ++ (v ++ (x ++ CRLF))))) (10 ∷ []) (simp append-assoc at q)
 no-extension f (chunked.behind-size.extension (chunked.chunk-ext.value (more y l) k m i j v x)) e = not-blank 59 refl y (same-head e)
 no-extension f (chunked.behind-size.blanks t none) e = eqb-false 13 59 refl (same-head e)
 no-extension f (chunked.behind-size.blanks t (more y l)) e = not-blank 59 refl y (same-head e)
@@ -380,7 +368,7 @@ no-size f (chunked.chunk-size.digits h l g) zs ys e = by (hexadecimal-row h) l e
 no-size f (chunked.chunk-size.no-digit t) zs ys e = clash t f
 
 no-size-line : {r : Rules} {w : List ℕ} {n : ℕ} → r .no-digit ≡ false → chunk-line r w n → w ≡ ascii "\r\n" → ⊥
-no-size-line f (chunked.chunk-line.line {s = s} {x = x} k d) e = no-size f k (x ++ line-break) (10 ∷ []) (sym (append-assoc s x line-break) ∙ e)
+no-size-line f (chunked.chunk-line.line {s = s} {x = x} k d) e = no-size f k (x ++ CRLF) (10 ∷ []) (sym (append-assoc s x CRLF) ∙ e)
 
 pub no-digit-real : Real (λ r. r .no-digit) (Chunk (ascii "\r\n"))
 no-digit-real = (λ r t. (0, chunked.chunk-line.line (chunked.chunk-size.no-digit t) (chunked.behind-size.extension chunked.chunk-ext.none)), λ r f d. no-size-line f (d .1) refl)

@@ -1,4 +1,5 @@
--- What the RFCs' grammar derives the default reading derives, but for what the three named restrictions take away.
+-- What is derived under `strict` is derived under `default` with the same fields, where the restrictions known-versions, obs-reason
+-- and sixteen-digits take nothing away.
 -- Assumes nothing.
 use Prim.Native.Nat.{ℕ, _+_, _-_, _≤_}
 use native.Mathlib.Omega.{arith}
@@ -7,12 +8,14 @@ use mathlib.Core.Logic.{_⊎_, inl, inr}
 use mathlib.Core.List.{List, [], _∷_, _++_, append-assoc}
 use mathlib.Core.Bool.{true, false, false≢true}
 use lib.ListN.{length}
-use Rattle.octets.specs.Grammar.{DIGIT, HEXDIG, text}
+use Rattle.octets.specs.Grammar.{DIGIT, HEXDIG, obs-text, text}
+use Rattle.octets.specs.Grammar as bytes
 use Rattle.rules.specs.Rules.{Rules, strict, default}
 use Rattle.grammar.specs.Rows.{Many, none, more, Some, some}
 use Rattle.grammar.specs.Fields.{Field}
 use Rattle.grammar.specs.Message.{line-end, crlf, lf, empty-lines, Version, HTTP-version, one-zero, one-one, other, request-target, RequestLine, request-line, status-code, plain-text, reason-phrase, StatusLine, status-line, header-block, head, request-head, response-head}
 use Rattle.grammar.specs.Message as grammar
+use Rattle.agreement.specs.Rows.{some-as}
 use Rattle.grammar.specs.Chunked.{hexadecimal, chunk-size, behind-size, chunk-line}
 use Rattle.grammar.specs.Chunked as chunked
 
@@ -85,6 +88,44 @@ status-line-too k p (grammar.status-line.code-ends t v c) = never t
 pub strict-response : {w : List ℕ} {l : StatusLine} {fs : List Field} → response-head strict w l fs → Known (l .version) → Many plain-text (l .reason) → response-head default w l fs
 strict-response h k p = head-as never never (λ v. status-line-too k p) h
 
+-- and a reason with obs-text is given as empty
+pub record Obsolete (w : List ℕ) : Type 0 where
+  pub before : List ℕ
+  pub byte : ℕ
+  pub behind : List ℕ
+  pub whole : w ≡ before ++ (byte ∷ behind)
+  pub here : obs-text byte
+
+text-parts : (u v : List ℕ) (c : ℕ) → Many text (u ++ (c ∷ v)) → Many text u × Many text v
+text-parts [] v c (more x k) = (none, k)
+text-parts (b ∷ u) v c (more x k) = let m = text-parts u v c k in (more x (m .0), m .1)
+
+plain-is-text : (b : ℕ) → plain-text b → text b
+plain-is-text b (grammar.plain-text.white h) = bytes.text.white h
+plain-is-text b (grammar.plain-text.visible h) = bytes.text.field (bytes.visible h)
+
+emptied : {w : List ℕ} → Some text w → Obsolete w → reason-phrase default w []
+emptied (some x k) o =
+    let m = text-parts (o .before) (o .behind) (o .byte) (subst (Many text) (o .whole) (more x k)) in
+    subst (λ y. reason-phrase default y []) (sym (o .whole)) (grammar.reason-phrase.emptied refl (m .0) (o .here) (m .1))
+
+reason-emptied : {w g : List ℕ} → Obsolete g → reason-phrase strict w g → reason-phrase default w []
+reason-emptied o (grammar.reason-phrase.plain k) = emptied (some-as plain-is-text k) o
+reason-emptied o (grammar.reason-phrase.whole t k) = emptied k o
+reason-emptied o (grammar.reason-phrase.emptied t k p l) = never t
+
+-- the line with no reason
+abbrev pub unreasoned : StatusLine → StatusLine
+unreasoned l = record { version = l .version; code = l .code; reason = [] }
+
+status-line-emptied : {l : StatusLine} → Known (l .version) → Obsolete (l .reason) → {w : List ℕ} → status-line strict w l → status-line default w (unreasoned l)
+status-line-emptied k o (grammar.status-line.reason n c x) = grammar.status-line.reason (version-known k n) (code-too c) (reason-emptied o x)
+status-line-emptied k o (grammar.status-line.no-reason n c) = grammar.status-line.no-reason (version-known k n) (code-too c)
+status-line-emptied k o (grammar.status-line.code-ends t n c) = never t
+
+pub strict-response-emptied : {w : List ℕ} {l : StatusLine} {fs : List Field} → response-head strict w l fs → Known (l .version) → Obsolete (l .reason) → response-head default w (unreasoned l) fs
+strict-response-emptied (grammar.head.message a d b x) k o = grammar.head.message (empty-lines-as never never a) (status-line-emptied k o d) (line-end-as never b) (block-as never x)
+
 pub strict-headers : {w : List ℕ} {fs : List Field} → header-block strict w fs → header-block default w fs
 strict-headers = block-as never
 
@@ -104,9 +145,9 @@ size-too : {s : List ℕ} {n : ℕ} → length s ≤ 16 → chunk-size strict s 
 size-too f (chunked.chunk-size.digits h l g) = chunked.chunk-size.digits h l (λ _. f)
 size-too f (chunked.chunk-size.no-digit t) = never t
 
-size-row : {s : List ℕ} {n : ℕ} → chunk-size strict s n → Many HEXDIG s
+pub size-row : {r : Rules} {s : List ℕ} {n : ℕ} → chunk-size r s n → Many HEXDIG s
 size-row (chunked.chunk-size.digits h l g) = hexadecimal-row h
-size-row (chunked.chunk-size.no-digit t) = never t
+size-row (chunked.chunk-size.no-digit t) = none
 
 behind-too : {w : List ℕ} → behind-size strict w → behind-size default w
 behind-too (chunked.behind-size.extension x) = chunked.behind-size.extension x

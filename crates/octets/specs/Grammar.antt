@@ -69,7 +69,7 @@ pub data blank (b : ℕ) : Type 0 where
   space : SP b → blank b
   tab : HTAB b → blank b
 
--- RFC 9110, 5.5: a byte within a field value; RFC 9112, 4: a byte of a reason phrase
+-- RFC 9110, 5.5 and 5.6.4: a byte within a field value or a quoted pair; RFC 9112, 4: a byte of a reason phrase
 pub data text (b : ℕ) : Type 0 where
   white : blank b → text b
   field : field-vchar b → text b

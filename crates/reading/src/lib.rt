@@ -1,27 +1,16 @@
-// What can be read, and what was found, in the same words for each kind.
+// What was read of an input, in the same words for each kind.
 use chunks::ChunkSize;
-use parts::Error;
 use parts::Passed;
 use requestline::RequestLine;
 use startline::KnownNumber;
 use statusline::StatusLine;
+use wording::Fault;
+use wording::Kind;
 
 // Four numbers a header: where its name is, the name's length, where its value is, the value's length.
 pub type Slots = [usize; 400];
 
 pub const MOST_HEADERS: usize = 100;
-
-pub enum Kind {
-    Request,
-    Response,
-    Headers,
-    Chunk,
-}
-
-pub enum Fault {
-    Head(Error),
-    Chunk,
-}
 
 // The position behind what was read; or more is wanted; or something is wrong.
 pub enum Answer {

@@ -7,8 +7,8 @@ use page::text::fill;
 use page::text::put;
 use page::text::row;
 use reading::Answer;
-use reading::Fault;
-use reading::Kind;
+use wording::Fault;
+use wording::Kind;
 
 // Answers how long the report is, or a number above the page's length where it has no room.
 pub fn report(page: &mut Page, kind: Kind, raw: bool, s: &[u8]) -> usize {

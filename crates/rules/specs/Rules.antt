@@ -26,7 +26,7 @@ pub record Rules : Type 0 where
   -- a chunk size has at most sixteen digits
   pub sixteen-digits : Bool
 
--- the RFCs' grammar as it stands
+-- the RFCs' rules; of a target no more is asked than that it is visible
 abbrev pub strict : Rules
 strict = record {
   lf-alone = false;

@@ -1,9 +1,19 @@
-// What an answer means, in words that somebody can act on.
+// What can be read and what can be wrong with it, and what an answer means, in words that somebody can act on.
 use page::text::Page;
 use page::text::put;
 use parts::Error;
-use reading::Fault;
-use reading::Kind;
+
+pub enum Kind {
+    Request,
+    Response,
+    Headers,
+    Chunk,
+}
+
+pub enum Fault {
+    Head(Error),
+    Chunk,
+}
 
 pub fn subject(page: &mut Page, at: usize, kind: Kind) -> usize {
     match kind {

@@ -6,4 +6,4 @@ use Rattle.calls.proofs.chunk_size.Statement.{statement}
 use Rattle.calls.proofs.chunk_size.Tie as tie
 
 pub chunk-size-spec : {M : Type 1} → statement M
-chunk-size-spec = tie.close (tie.spec (λ c κs. search needs) (λ c. search (needs, chunk-promise)))
+chunk-size-spec = tie.close (tie.spec (λ c κs. search needs) (λ c. let t = c .chunk-size .ensures in (t, chunk-promise t)))

@@ -6,4 +6,4 @@ use Rattle.calls.proofs.headers.Statement.{statement}
 use Rattle.calls.proofs.headers.Tie as tie
 
 pub headers-spec : {M : Type 1} → statement M
-headers-spec = tie.close (tie.spec (λ c κs. search needs) (λ c. search needs) (λ c. search (needs, headers-promise)))
+headers-spec = tie.close (tie.spec (λ c κs. search needs) (λ c. search needs) (λ c. let t = c .before .before .headers .ensures in (t, headers-promise t)))

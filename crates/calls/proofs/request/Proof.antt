@@ -6,4 +6,4 @@ use Rattle.calls.proofs.request.Statement.{statement}
 use Rattle.calls.proofs.request.Tie as tie
 
 pub request-spec : {M : Type 1} → statement M
-request-spec = tie.close (tie.spec (λ c κs. search needs) (λ c. search needs) (λ c. search (needs, request-promise)))
+request-spec = tie.close (tie.spec (λ c κs. search needs) (λ c. search needs) (λ c. let t = c .before .before .request .ensures in (t, request-promise t)))

@@ -6,4 +6,4 @@ use Rattle.calls.proofs.response.Statement.{statement}
 use Rattle.calls.proofs.response.Tie as tie
 
 pub response-spec : {M : Type 1} → statement M
-response-spec = tie.close (tie.spec (λ c κs. search needs) (λ c. search needs) (λ c. search (needs, response-promise)))
+response-spec = tie.close (tie.spec (λ c κs. search needs) (λ c. search needs) (λ c. let t = c .before .before .response .ensures in (t, response-promise t)))

@@ -1,0 +1,136 @@
+-- Every place that a reader of a start line tells lies in the input, whatever it answers.
+-- Assumes nothing.
+use Prim.Native.Nat.{ℕ, _+_, _-_, _≤_}
+use native.Mathlib.Omega.{arith}
+use mathlib.Core.Path.{_≡_, refl, sym, ap, subst, _∙_}
+use mathlib.Core.List.{List, [], _∷_, _++_}
+use lib.ListN.{length, drop, length-append, length-drop}
+use Rattle.reader.specs.Machine.{Step}
+use Rattle.reader.specs.Answer.{Answer, got, short, bad, answered, and}
+use Rattle.reader.specs.Chain.{nothing, reads, ended, last, chain}
+use Rattle.exact.specs.Exact.{Relation, Exact}
+use Rattle.octets.specs.Class.{isToken}
+use Rattle.rules.specs.Rules.{Rules}
+use Rattle.parts.specs.declared.Error.{Error}
+use Rattle.parts.specs.declared.Error.the-variants.{NewLine, Status, Token, Version}
+use Rattle.parts.specs.declared.Piece.{Piece}
+use Rattle.parts.specs.LineEnd.{lineEnd}
+use Rattle.parts.specs.EmptyLines.{emptyLines}
+use Rattle.words.specs.Word.{wordStep, word}
+use Rattle.words.specs.Word as words
+use Rattle.words.specs.Target.{targetStep, target}
+use Rattle.words.specs.Target as targets
+use Rattle.versions.specs.Version.{version}
+use Rattle.spaces.specs.Space.{space, behindCode}
+use Rattle.status.specs.Code.{code}
+use Rattle.status.specs.Reason.{reasonStep, reason}
+use Rattle.status.specs.Reason as reasons
+use Rattle.requestline.specs.declared.RequestLine.{RequestLine}
+use Rattle.requestline.specs.RequestLine as requests
+use Rattle.statusline.specs.declared.StatusLine.{StatusLine}
+use Rattle.statusline.specs.StatusLine as statuses
+use Rattle.leaves.specs.Word.{Worded, exact-word}
+use Rattle.leaves.specs.Target.{Targeted, exact-target}
+use Rattle.leaves.specs.Reason.{Reasoned, plain, obsolete, exact-reason}
+use Rattle.agreement.specs.StartLine.{no-space}
+use Rattle.agreement.specs.FieldLine.{PieceIn}
+use Rattle.agreement.specs.Known.{RequestInside, StatusInside}
+
+-- what an answer knows
+abbrev pub knownOf : {K E : Type 0} → Answer K K (E × K) → K
+knownOf (got k q) = k
+knownOf (short k) = k
+knownOf (bad x) = x .1
+
+-- what holds before a part and with what it adds holds of what is known in the end
+module _ {K A E : Type 0} (P : K → Type 0) (k : K) (f : A → K) (h : P k) where
+  last-holds : (a : Answer (Unit {0}) A E) → ((x : A) (q : ℕ) → a ≡ got x q → P (f x)) → P (knownOf (last k f a))
+  last-holds (got x q) g = g x q refl
+  last-holds (short u) g = h
+  last-holds (bad e) g = h
+
+  chain-holds : (next : K → ℕ → Answer K K (E × K)) (a : Answer (Unit {0}) A E) → ((x : A) (q : ℕ) → a ≡ got x q → P (knownOf (next (f x) q))) → P (knownOf (chain k f a next))
+  chain-holds next (got x q) g = g x q refl
+  chain-holds next (short u) g = h
+  chain-holds next (bad e) g = h
+
+-- a piece that an exact machine gives lies in the input, where its relation says that it lies in what was read
+module _ {S : Type 0} {m : Step S Piece Error} {s : S} {G : Relation Piece} (M : Exact m s G) (lies : (p : ℕ) (w : List ℕ) (a : Piece) (rest : List ℕ) → G p w a rest → PieceIn (p + length w) a × (1 ≤ length w + length rest)) where
+  piece-in : (z : List ℕ) (p : ℕ) (a : Piece) (q : ℕ) → reads m s z p ≡ got a q → PieceIn (length z) a
+  piece-in z p a q e =
+      let P = M .sound p (drop p z) a q (answered nothing _ e) in
+      let l : length z - p ≡ length (P .w) + length (P .rest) = sym (length-drop p z) ∙ ap length (P .whole) ∙ length-append (P .w) (P .rest) in
+      let k = lies p (P .w) a (P .rest) (P .holds) in
+      omega (arith, k .0, k .1, l)
+
+word-lies : (p : ℕ) (w : List ℕ) (a : Piece) (rest : List ℕ) → Worded isToken 32 p w a rest → PieceIn (p + length w) a × (1 ≤ length w + length rest)
+word-lies p w a rest K =
+    let l : length w ≡ length (K .v) + 1 = ap length (K .whole) ∙ length-append (K .v) (32 ∷ []) in
+    (subst (PieceIn (p + length w)) (sym (K .place)) (omega (arith, l)), omega (arith, l))
+
+target-lies : (p : ℕ) (w : List ℕ) (a : Piece) (rest : List ℕ) → Targeted p w a rest → PieceIn (p + length w) a × (1 ≤ length w + length rest)
+target-lies p w a rest K =
+    let l : length w ≡ length (K .v) + 1 = ap length (K .line) ∙ length-append (K .v) (32 ∷ []) in
+    (subst (PieceIn (p + length w)) (sym (K .place)) (omega (arith, l)), omega (arith, l))
+
+reason-lies : (p : ℕ) (w : List ℕ) (a : Piece) (rest : List ℕ) → Reasoned p w a rest → PieceIn (p + length w) a × (1 ≤ length w + length rest)
+reason-lies p w a rest (plain k s) = (omega arith, omega (arith, ap length (s .whole)))
+reason-lies p w a rest (obsolete k o l s) = (omega arith, omega (arith, ap length (s .whole)))
+
+module _ (r : Rules) (z : List ℕ) where
+  abbrev In : RequestLine → Type 0
+  In = RequestInside (length z)
+
+  end-in : (k : RequestLine) (q : ℕ) → In k → In (knownOf (requests.fromEnd r z k q))
+  end-in k q h = last-holds In k (λ _. k) h (lineEnd r NewLine z q) (λ x i e. h)
+
+  version-in : (k : RequestLine) (q : ℕ) → In k → In (knownOf (requests.fromVersion r z k q))
+  version-in k q h = chain-holds In k (requests.withVersion k) h (requests.fromEnd r z) (version z q) (λ v i e. end-in (requests.withVersion k v) i (record { method = h .method; target = h .target }))
+
+  target-in : (k : RequestLine) (q : ℕ) → In k → In (knownOf (requests.fromTarget r z k q))
+  target-in k q h = chain-holds In k (requests.withTarget k) h (requests.fromVersion r z) (target z q) (λ t i e. version-in (requests.withTarget k t) i (record { method = h .method; target = piece-in exact-target target-lies z q t i e }))
+
+  method-in : (k : RequestLine) (q : ℕ) → In k → In (knownOf (requests.fromMethod r z k q))
+  method-in k q h = chain-holds In k (requests.withMethod k) h (requests.fromTarget r z) (word isToken 32 Token z q) (λ m i e. target-in (requests.withMethod k m) i (record { method = piece-in (exact-word isToken 32 Token no-space) word-lies z q m i e; target = h .target }))
+
+  pub request-line-in : In (knownOf (requests.requestLine r z 0))
+  request-line-in =
+      subst (λ a. In (knownOf a)) (requests.request-line-whole r z 0 refl)
+      (chain-holds In requests.unread (λ _. requests.unread) (record { method = tt; target = tt }) (requests.fromMethod r z) (emptyLines r z 0) (λ x i e. method-in requests.unread i (record { method = tt; target = tt })))
+
+-- a reason is given with its line's end
+reason-got : (x : Answer (Unit {0}) Piece Error) (y : Piece → ℕ → Answer (Unit {0}) (Unit {0}) Error) (a : Piece) (q : ℕ) → and x (λ w i. ended w (y w i)) ≡ got a q → (i : ℕ) × (x ≡ got a i)
+reason-got (got w i) y a q e = (i, ap (λ v. got v i) (by (y w i) e))
+  where
+    by : (b : Answer (Unit {0}) (Unit {0}) Error) → ended w b ≡ got a q → w ≡ a
+    by (got u j) f = cc
+    by (short u) f = let n : _≡_ {A = ℕ} 0 1 = cc in absurd (omega arith)
+    by (bad u) f = let n : _≡_ {A = ℕ} 0 1 = cc in absurd (omega arith)
+reason-got (short u) y a q e = let n : _≡_ {A = ℕ} 0 1 = cc in absurd (omega arith)
+reason-got (bad u) y a q e = let n : _≡_ {A = ℕ} 0 1 = cc in absurd (omega arith)
+
+module _ (r : Rules) (z : List ℕ) where
+  abbrev Lies : StatusLine → Type 0
+  Lies = StatusInside (length z)
+
+  reason-in : (k : StatusLine) (q : ℕ) → Lies k → Lies (knownOf (statuses.fromReason r z k q))
+  reason-in k q h =
+      last-holds Lies k (statuses.withReason k) h (statuses.reasonEnd r z q)
+      (λ w i e. let g = reason-got (reason z q) (λ w i. lineEnd r Status z i) w i e in record { reason = piece-in exact-reason reason-lies z q w (g .0) (g .1) })
+
+  behind-in : (k : StatusLine) (q : ℕ) → Lies k → Lies (knownOf (statuses.fromBehind r z k q))
+  behind-in k q h = chain-holds Lies k (λ _. k) h (statuses.fromReason r z) (behindCode r z q) (λ x i e. reason-in k i h)
+
+  code-in : (k : StatusLine) (q : ℕ) → Lies k → Lies (knownOf (statuses.fromCode r z k q))
+  code-in k q h = chain-holds Lies k (statuses.withCode k) h (statuses.fromBehind r z) (code z q) (λ c i e. behind-in (statuses.withCode k c) i (record { reason = h .reason }))
+
+  space-in : (k : StatusLine) (q : ℕ) → Lies k → Lies (knownOf (statuses.fromSpace r z k q))
+  space-in k q h = chain-holds Lies k (λ _. k) h (statuses.fromCode r z) (space Version z q) (λ x i e. code-in k i h)
+
+  status-version-in : (k : StatusLine) (q : ℕ) → Lies k → Lies (knownOf (statuses.fromVersion r z k q))
+  status-version-in k q h = chain-holds Lies k (statuses.withVersion k) h (statuses.fromSpace r z) (version z q) (λ v i e. space-in (statuses.withVersion k v) i (record { reason = h .reason }))
+
+  pub status-line-in : Lies (knownOf (statuses.statusLine r z 0))
+  status-line-in =
+      subst (λ a. Lies (knownOf a)) (statuses.status-line-whole r z 0 refl)
+      (chain-holds Lies statuses.unread (λ _. statuses.unread) (record { reason = tt }) (statuses.fromVersion r z) (emptyLines r z 0) (λ x i e. status-version-in statuses.unread i (record { reason = tt })))
