@@ -15,7 +15,7 @@ use Rattle.exact.specs.Loop.{Laps, exact-loop}
 use Rattle.rules.specs.Rules.{Rules}
 use Rattle.fields.specs.declared.Header.{Header}
 use Rattle.fields.specs.Line.{Kind, lineStep}
-use Rattle.fields.specs.Block.{taken, lapStep, blockStep, block-fresh}
+use Rattle.blocks.specs.Block.{taken, lapStep, blockStep, block-fresh}
 use Rattle.grammar.specs.Message.{line-end, crlf, lf}
 use Rattle.agreement.specs.Line.{Lined, exact-line}
 

@@ -17,10 +17,10 @@ use Rattle.parts.specs.declared.Passed.{Passed}
 use Rattle.parts.specs.declared.Passed.the-variants.{At, More, Bad}
 use Rattle.parts.specs.EmptyLines.{start}
 use Rattle.fields.specs.declared.Header.{Header}
-use Rattle.fields.specs.declared.Block.{Block}
-use Rattle.fields.specs.Slots.{filled}
-use Rattle.fields.specs.Block.{Blocks, blockStep, block}
-use Rattle.fields.specs.Block as blocks
+use Rattle.blocks.specs.declared.Block.{Block}
+use Rattle.blocks.specs.Slots.{filled}
+use Rattle.blocks.specs.Block.{Blocks, blockStep, block}
+use Rattle.blocks.specs.Block as blocks
 use Rattle.requestline.specs.declared.RequestLine.{RequestLine}
 use Rattle.statusline.specs.declared.StatusLine.{StatusLine}
 use Rattle.requestline.specs.RequestLine as requests
@@ -68,10 +68,10 @@ module _ (n : ℕ) where
   response-lies = head-lies default n (statuses.statusLineStep default) statuses.lineKnown (first start) StatusInside (status-line-in default)
 
 -- the answer of a block as that of a head with no start line
-abbrev alone : Blocks → Heads (Unit {0})
+abbrev pub alone : Blocks → Heads (Unit {0})
 alone b = over {K = Unit {0}} tt b
 
-abbrev headersOf : ℕ → List ℕ → Heads (Unit {0})
+abbrev pub headersOf : ℕ → List ℕ → Heads (Unit {0})
 headersOf n z = alone (block default n [] z 0)
 
 got-block : (b : Blocks) (k : Unit {0}) (hs : List Header) (q : ℕ) → _≡_ {A = Heads (Unit {0})} (alone b) (got (k, hs) q) → b ≡ got hs q
@@ -84,7 +84,7 @@ bad-block (got y p) x e = let n : _≡_ {A = ℕ} 0 1 = cc in absurd (omega arit
 bad-block (short y) x e = let n : _≡_ {A = ℕ} 0 1 = cc in absurd (omega arith)
 bad-block (bad y) x e = let u : _≡_ {A = Error × Known (Unit {0})} (y .0, (tt, y .1)) x = cc in ap (λ v. bad (v .0, v .1 .1)) u
 
-given-block : (b : Blocks) → given (alone b) ≡ blocks.given b
+pub given-block : (b : Blocks) → given (alone b) ≡ blocks.given b
 given-block (got x q) = refl
 given-block (short x) = refl
 given-block (bad x) = refl
@@ -135,14 +135,14 @@ tell-alone (At q) hs = refl
 tell-alone More hs = refl
 tell-alone (Bad e) hs = refl
 
-pub headers-promise : {s old : List ℕ} {r : Block} {new : List ℕ} → blocks.Told (block default (length old / 4) [] s 0) r old new → HeadPromise block-alone says-nothing lies-nowhere s old (r .end) tt (r .count) new
-headers-promise {s} {old} {r} {new} T =
-    let b : Blocks = block default (length old / 4) [] s 0 in
+pub alone-told : {b : Blocks} {r : Block} {old new : List ℕ} → blocks.Told b r old new → Told (alone b) (r .end) tt (r .count) old new
+alone-told {b} {r} {old} T =
     let g : given (alone b) ≡ blocks.given b = given-block b in
-    let U : Told (headersOf (length old / 4) s) (r .end) tt (r .count) old new =
     record {
       answer = ap (λ y. tell (r .end) (tt, y)) g ∙ tell-alone (r .end) (blocks.given b) ∙ ap alone (T .answer);
       count-is = T .count ∙ ap length (sym g);
       slots = T .slots ∙ ap (λ y. filled y old) (sym g);
-    } in
-    kept (headers-exactly (length old / 4)) (headers-lie (length old / 4)) U
+    }
+
+pub headers-promise : {s old : List ℕ} {r : Block} {new : List ℕ} → blocks.Told (block default (length old / 4) [] s 0) r old new → HeadPromise block-alone says-nothing lies-nowhere s old (r .end) tt (r .count) new
+headers-promise {s} {old} T = kept (headers-exactly (length old / 4)) (headers-lie (length old / 4)) (alone-told T)

@@ -16,8 +16,8 @@ use Rattle.grammar.specs.Message as grammar
 use Rattle.parts.specs.declared.Error.{Error}
 use Rattle.parts.specs.declared.Error.the-variants.{TooManyHeaders}
 use Rattle.fields.specs.declared.Header.{Header}
-use Rattle.fields.specs.Block.{Blocks, block}
-use Rattle.fields.specs.Block as blocks
+use Rattle.blocks.specs.Block.{Blocks, block}
+use Rattle.blocks.specs.Block as blocks
 use Rattle.heads.specs.Head.{Heads, Known, headStep, headKnown, over, headed, head-parts, given}
 use Rattle.heads.specs.Head as heads
 use Rattle.agreement.specs.Head.{exact-head}
@@ -59,7 +59,7 @@ pub record Lies {K : Type 0} (In : ℕ → K → Type 0) (read : List ℕ → He
   pub line : (z : List ℕ) → In (length z) (knownOf (read z) .0)
   pub fields : (z : List ℕ) → Each (HeaderIn (length z)) (given (read z))
 
-given-over : {K : Type 0} (k : K) (b : Blocks) → given (over k b) ≡ blocks.given b
+pub given-over : {K : Type 0} (k : K) (b : Blocks) → given (over k b) ≡ blocks.given b
 given-over k (got hs q) = refl
 given-over k (short hs) = refl
 given-over k (bad x) = refl

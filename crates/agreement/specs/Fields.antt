@@ -24,7 +24,7 @@ use Rattle.parts.specs.declared.Error.{Error}
 use Rattle.parts.specs.declared.Error.the-variants.{TooManyHeaders}
 use Rattle.fields.specs.declared.Header.{Header}
 use Rattle.fields.specs.Line.{Kind, header, end, lineStep, line}
-use Rattle.fields.specs.Block.{taken, block, block-line, given}
+use Rattle.blocks.specs.Block.{taken, block, block-line, given}
 use Rattle.leaves.specs.Rows.{split}
 use Rattle.agreement.specs.Line.{Lined, exact-line}
 use Rattle.agreement.specs.Block.{Lapped, line-long}

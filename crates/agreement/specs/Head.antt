@@ -11,7 +11,7 @@ use Rattle.exact.specs.Judged.{Passes, exact-judged}
 use Rattle.exact.specs.Seq.{Both, exact-seq}
 use Rattle.parts.specs.declared.Error.{Error}
 use Rattle.rules.specs.Rules.{Rules}
-use Rattle.fields.specs.Block.{blockStep}
+use Rattle.blocks.specs.Block.{blockStep}
 use Rattle.heads.specs.Head.{Known, blockOn, headStep}
 use Rattle.agreement.specs.Block.{Blocked, exact-block}
 

@@ -16,7 +16,7 @@ use Rattle.parts.specs.declared.Error.the-variants.{TooManyHeaders}
 use Rattle.parts.specs.declared.Passed.{Passed}
 use Rattle.parts.specs.declared.Passed.the-variants.{At, More, Bad}
 use Rattle.fields.specs.declared.Header.{Header}
-use Rattle.fields.specs.Slots.{flat, filled, length-flat}
+use Rattle.blocks.specs.Slots.{flat, filled, length-flat}
 use Rattle.startline.specs.Answers.{tell}
 use Rattle.heads.specs.Head.{Heads, Known, given, Told}
 use Rattle.agreement.specs.FieldLine.{fieldOf, HeaderIn}

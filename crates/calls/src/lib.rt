@@ -6,14 +6,14 @@ ghost use Prim.Native.Nat.{_/_};
 ghost use lib.ListN.{length};
 ghost use Rattle.rules.specs.Rules.{default};
 ghost use Rattle.grammar.specs.Message.{request-head, response-head};
-ghost use Rattle.fields.specs.Block.{block, Told as BlockTold};
+ghost use Rattle.blocks.specs.Block.{block, Told as BlockTold};
 ghost use Rattle.heads.specs.Head.{Told};
 ghost use Rattle.heads.specs.Calls.{request as requestOf, response as responseOf};
 ghost use Rattle.chunks.specs.Chunk.{chunk, sizeOf};
 ghost use Rattle.agreement.specs.Known.{RequestSays, StatusSays, RequestInside, StatusInside};
 ghost use Rattle.agreement.specs.Promises.{HeadPromise, block-alone, says-nothing, lies-nowhere, ChunkPromise};
+use blocks::Block;
 use chunks::ChunkSize;
-use fields::Block;
 use heads::RequestHead;
 use heads::ResponseHead;
 

@@ -1,3 +1,1 @@
 pub mod Line
-pub mod Slots
-pub mod Block

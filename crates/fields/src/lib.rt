@@ -1,13 +1,9 @@
-// One header line, and the block of them up to the empty line, over slots that the caller lends.
+// One line of a header block: a header, or the empty line that ends it.
 ghost use mathlib.Core.Path.{_≡_};
-ghost use mathlib.Core.List.{[], _∷_, _++_};
-ghost use Prim.Native.Nat.{_+_, _/_, _≤_};
-ghost use lib.ListN.{length, take, drop};
 ghost use Rattle.reader.specs.Chain.{ended};
 ghost use Rattle.parts.specs.declared.Error.the-variants.{NewLine};
 ghost use Rattle.rules.specs.Rules.{default};
 ghost use Rattle.parts.specs.LineEnd.{lineEnd};
-ghost use Rattle.fields.specs.Block.{block as blockAt, Told};
 ghost use Rattle.fields.specs.Line.{header as headerOf, end as endOf, line as lineAt, lastly, onward, lineOf};
 use parts::Error;
 use parts::Found;
@@ -78,74 +74,5 @@ pub fn header_line(s: &[u8], at: usize) -> Line
         Found::At(name, next) => header_value(s, name, next),
         Found::More => Line::More,
         Found::Bad(e) => Line::Bad(e),
-    }
-}
-
-// What reading the block comes to, and how many headers are in the slots.
-pub struct Block {
-    pub end: Passed,
-    pub count: usize,
-}
-
-// Four numbers, from `at` on.
-fn put(slots: &mut [usize], at: usize, a: usize, b: usize, c: usize, d: usize)
-    requires { ⌜ at + 4 ≤ length (now slots) ⌝ }
-    ensures { λ _. ⌜ now (slots .exit) ≡ take at (now (slots .entry)) ++ (a ∷ b ∷ c ∷ d ∷ []) ++ drop (at + 4) (now (slots .entry)) ⌝ }
-{
-    slots[at] = a;
-    slots[at + 1] = b;
-    slots[at + 2] = c;
-    slots[at + 3] = d;
-}
-
-// The lines from `at` to the empty one. A header takes four numbers of `slots`; the rest of them is left as it was.
-pub fn header_block(s: &[u8], at: usize, slots: &mut [usize]) -> Block
-    ensures { λ r. ⌜ Told (blockAt default (length (now (slots .entry)) / 4) [] (now (s .entry)) at) r (now (slots .entry)) (now (slots .exit)) ⌝ }
-{
-    let n = slots.len() / 4;
-    let mut i = at;
-    let mut count: usize = 0;
-    loop {
-        let line = header_line(s, i);
-        match line {
-            Line::Header(header, next) => {
-                if n <= count {
-                    return Block {
-                        end: Passed::Bad(Error::TooManyHeaders),
-                        count,
-                    };
-                }
-                let name = header.name;
-                let value = header.value;
-                put(
-                    slots,
-                    count * 4,
-                    name.offset,
-                    name.length,
-                    value.offset,
-                    value.length,
-                );
-                count += 1;
-                i = next;
-            }
-            Line::End(next) => {
-                return Block {
-                    end: Passed::At(next),
-                    count,
-                };
-            }
-            Line::More => {
-                return Block {
-                    end: Passed::More,
-                    count,
-                };
-            }
-            Line::Bad(e) => {
-                return Block {
-                    end: Passed::Bad(e),
-                    count,
-                };
-            }
-        }
     }
 }

@@ -13,7 +13,7 @@ use Rattle.requestline.specs.RequestLine.{requestLineStep, requestLine}
 use Rattle.requestline.specs.RequestLine as requests
 use Rattle.statusline.specs.StatusLine.{statusLineStep, statusLine}
 use Rattle.statusline.specs.StatusLine as statuses
-use Rattle.fields.specs.Block.{block}
+use Rattle.blocks.specs.Block.{block}
 use Rattle.heads.specs.Head.{Heads, head, over, headed, head-parts, Told, head-block, head-more, head-bad}
 
 unfoldable pub request : Rules → ℕ → List ℕ → Heads RequestLine

@@ -15,11 +15,11 @@ use Rattle.parts.specs.declared.Passed.the-variants as passes
 use Rattle.rules.specs.Rules.{Rules, default}
 use Rattle.startline.specs.Answers.{tell}
 use Rattle.fields.specs.declared.Header.{Header}
-use Rattle.fields.specs.declared.Block.{Block}
+use Rattle.blocks.specs.declared.Block.{Block}
 use Rattle.fields.specs.Line.{LineState}
-use Rattle.fields.specs.Slots.{filled, filled-none}
-use Rattle.fields.specs.Block.{Blocks, blockStep, block}
-use Rattle.fields.specs.Block as blocks
+use Rattle.blocks.specs.Slots.{filled, filled-none}
+use Rattle.blocks.specs.Block.{Blocks, blockStep, block}
+use Rattle.blocks.specs.Block as blocks
 
 -- what is known of a head: of its start line, and the headers that were given
 abbrev pub Known : Type 0 → Type 0

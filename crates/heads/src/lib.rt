@@ -3,10 +3,10 @@ ghost use mathlib.Core.List.{[]};
 ghost use Prim.Native.Nat.{_/_};
 ghost use lib.ListN.{length};
 ghost use Rattle.rules.specs.Rules.{default};
-ghost use Rattle.fields.specs.Block.{block, Told as BlockTold};
+ghost use Rattle.blocks.specs.Block.{block, Told as BlockTold};
 ghost use Rattle.heads.specs.Head.{Told};
 ghost use Rattle.heads.specs.Calls.{request as requestOf, response as responseOf};
-use fields::Block;
+use blocks::Block;
 use parts::Passed;
 use requestline::RequestLine;
 use statusline::StatusLine;
@@ -34,7 +34,7 @@ pub fn request(s: &[u8], slots: &mut [usize]) -> RequestHead
     let end = read.end;
     match end {
         Passed::At(next) => {
-            let block = fields::header_block(s, next, slots);
+            let block = blocks::header_block(s, next, slots);
             let end = block.end;
             RequestHead {
                 end,
@@ -63,7 +63,7 @@ pub fn response(s: &[u8], slots: &mut [usize]) -> ResponseHead
     let end = read.end;
     match end {
         Passed::At(next) => {
-            let rest = fields::header_block(s, next, slots);
+            let rest = blocks::header_block(s, next, slots);
             let end = rest.end;
             ResponseHead {
                 end,
@@ -87,5 +87,5 @@ pub fn response(s: &[u8], slots: &mut [usize]) -> ResponseHead
 pub fn headers(s: &[u8], slots: &mut [usize]) -> Block
     ensures { λ r. ⌜ BlockTold (block default (length (now (slots .entry)) / 4) [] (now (s .entry)) 0) r (now (slots .entry)) (now (slots .exit)) ⌝ }
 {
-    fields::header_block(s, 0, slots)
+    blocks::header_block(s, 0, slots)
 }

@@ -24,13 +24,13 @@ use Rattle.parts.specs.declared.Passed.the-variants as passes
 use Rattle.rules.specs.Rules.{Rules, default}
 use Rattle.parts.specs.LineEnd.{LineEnd, begin, cr, lineEndStep}
 use Rattle.words.specs.Word.{Word, none, some}
 use Rattle.fields.specs.declared.Header.{Header}
 use Rattle.fields.specs.declared.Line.{Line}
 use Rattle.fields.specs.declared.Line.the-variants as lines
-use Rattle.fields.specs.declared.Block.{Block}
+use Rattle.blocks.specs.declared.Block.{Block}
 use Rattle.values.specs.Value.{Value, blanks}
 use Rattle.fields.specs.Line.{Kind, header, end, LineState, lineStep, line, lineOf}
-use Rattle.fields.specs.Slots.{numbers, filled, filled-none, filled-more}
+use Rattle.blocks.specs.Slots.{numbers, filled, filled-none, filled-more}
 
 -- what a line adds to the headers hs, with n slots
 abbrev pub taken : ℕ → List Header → Kind → Verdict (Turn (List Header) (List Header)) (Error × List Header)

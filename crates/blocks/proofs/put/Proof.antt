@@ -1,11 +1,11 @@
--- `fields::put` meets its contract: four stores in a row.
+-- `blocks::put` meets its contract: four stores in a row.
 -- Assumes nothing.
 use borrow.Author.Needs.{needs}
 use native.Mathlib.Omega.{arith}
 use lib.ListN.{length-set}
-use Rattle.fields.specs.Slots.{put4}
-use Rattle.fields.proofs.put.Statement.{statement}
-use Rattle.fields.proofs.put.Tie as tie
+use Rattle.blocks.specs.Slots.{put4}
+use Rattle.blocks.proofs.put.Statement.{statement}
+use Rattle.blocks.proofs.put.Tie as tie
 
 pub put-spec : {M : Type 1} → statement M
 put-spec =

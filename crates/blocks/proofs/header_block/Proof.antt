@@ -1,11 +1,11 @@
--- `fields::header_block` meets its contract: the headers so far are in the slots, and each line adds to them what the machine adds.
+-- `blocks::header_block` meets its contract: the headers so far are in the slots, and each line adds to them what the machine adds.
 -- Assumes nothing.
 use Prim.Native.Nat.{_-_}
 use borrow.Author.Needs.{needs}
 use native.Mathlib.Omega.{arith}
-use Rattle.fields.specs.Block.{Kept, kept-more, blocks}
-use Rattle.fields.proofs.header_block.Statement.{statement}
-use Rattle.fields.proofs.header_block.Tie as tie
+use Rattle.blocks.specs.Block.{Kept, kept-more, blocks}
+use Rattle.blocks.proofs.header_block.Statement.{statement}
+use Rattle.blocks.proofs.header_block.Tie as tie
 
 abbrev Inv-loop : tie.InvT-loop
 Inv-loop s at slots₀ n i₀ count₀ slots i count = Kept n s slots₀ slots at i count

@@ -1,0 +1,82 @@
+-- The headers that a block has given stay given as bytes arrive.
+-- Assumes nothing.
+use Prim.Native.Nat.{ℕ, zero, suc, _+_, _*_, _≤_, _<_}
+use native.Mathlib.Omega.{arith}
+use mathlib.Core.Path.{_≡_, refl, sym, ap, subst, _∙_}
+use mathlib.Core.List.{List, [], _∷_, _++_, append-assoc, append-nil}
+use mathlib.Core.Bool.{Bool, true, false}
+use lib.Dec.{ltb}
+use lib.ListN.{length, take, drop, length-append}
+use lib.Seq.{take-at}
+use Rattle.reader.specs.Answer.{Answer, got, short, bad, answer, verdict, retold, rounds}
+use Rattle.reader.specs.Chain.{nothing}
+use Rattle.reader.specs.Branch.{fresh}
+use Rattle.rules.specs.Rules.{Rules}
+use Rattle.parts.specs.declared.Error.{Error}
+use Rattle.fields.specs.declared.Header.{Header}
+use Rattle.fields.specs.Line.{Kind, header, end, lineStep, line}
+use Rattle.blocks.specs.Slots.{numbers, flat, filled, length-flat}
+use Rattle.blocks.specs.Block.{taken, block, block-line, given}
+use Rattle.leaves.specs.Rows.{split}
+use Rattle.agreement.specs.Fields.{line-within, given-all}
+use Rattle.onereading.specs.Later.{Later, same, waited, later}
+
+-- all begins with these
+pub record Starts (hs all : List Header) : Type 0 where
+  pub more : List Header
+  pub whole : all ≡ hs ++ more
+
+starts-refl : (hs : List Header) → Starts hs hs
+starts-refl hs = record { more = []; whole = sym (append-nil hs) }
+
+starts-more : (hs all : List Header) (h : Header) → Starts hs all → Starts hs (all ++ (h ∷ []))
+starts-more hs all h s = record { more = s .more ++ (h ∷ []); whole = ap (λ y. y ++ (h ∷ [])) (s .whole) ∙ append-assoc hs (s .more) (h ∷ []) }
+
+-- what a block goes on to after a line
+abbrev after-line : Rules → ℕ → List ℕ → List Header → Answer (Unit {0}) Kind Error → List Header
+after-line r n z hs a = given (rounds (retold (λ _. hs) (taken n hs) (λ e. (e, hs)) a) (λ hs′ q. block r n hs′ z q))
+
+module _ (r : Rules) (n : ℕ) where
+  pub block-keeps : (z : List ℕ) (hs : List Header) (p : ℕ) → Starts hs (given (block r n hs z p))
+  block-keeps z hs p = given-all z r n (Starts hs) (λ ks h i q e l s. starts-more hs ks h s) hs p (starts-refl hs)
+
+  module _ (xs ys : List ℕ) where
+    grows-line : (hs : List Header) (p : ℕ) → ((h : Header) (q : ℕ) → p + 1 ≤ q → q ≤ length xs → Starts (given (block r n (hs ++ (h ∷ [])) xs q)) (given (block r n (hs ++ (h ∷ [])) (xs ++ ys) q))) → {a b : Answer (Unit {0}) Kind Error} → line r xs p ≡ a → Later a b → Starts hs (after-line r n (xs ++ ys) hs b) → Starts (after-line r n xs hs a) (after-line r n (xs ++ ys) hs b)
+    grows-line hs p ih e (same {a = short u}) w = starts-refl hs
+    grows-line hs p ih e (same {a = bad x}) w = starts-refl hs
+    grows-line hs p ih e (same {a = got end q}) w = starts-refl hs
+    grows-line hs p ih e (same {a = got (header h) q}) w =
+        split (λ v. Starts (given (rounds (verdict {U = Unit {0}} (λ _. hs) (taken n hs) (λ e. (e, hs)) v q) (λ hs′ q. block r n hs′ xs q))) (given (rounds (verdict {U = Unit {0}} (λ _. hs) (taken n hs) (λ e. (e, hs)) v q) (λ hs′ q. block r n hs′ (xs ++ ys) q)))) (ltb (length hs) n)
+        (λ t. let k = line-within xs r n p q (header h) e in ih h q (k .0) (k .1))
+        (λ t. starts-refl hs)
+    grows-line hs p ih e waited w = w
+
+    line-later : (p : ℕ) → Later (line r xs p) (line r (xs ++ ys) p)
+    line-later p = later nothing (lineStep r) fresh xs ys p
+
+    grows-step : (hs : List Header) (p : ℕ) → ((h : Header) (q : ℕ) → p + 1 ≤ q → q ≤ length xs → Starts (given (block r n (hs ++ (h ∷ [])) xs q)) (given (block r n (hs ++ (h ∷ [])) (xs ++ ys) q))) → Starts (given (block r n hs xs p)) (given (block r n hs (xs ++ ys) p))
+    grows-step hs p ih =
+        subst (λ a. Starts (given a) (given (block r n hs (xs ++ ys) p))) (sym (block-line r n hs xs p))
+        (subst (λ b. Starts (after-line r n xs hs (line r xs p)) (given b)) (sym (block-line r n hs (xs ++ ys) p))
+        (grows-line hs p ih refl (line-later p) (subst (λ b. Starts hs (given b)) (block-line r n hs (xs ++ ys) p) (block-keeps (xs ++ ys) hs p))))
+
+    grows-by : (m : ℕ) (hs : List Header) (p : ℕ) → length xs ≤ p + m → Starts (given (block r n hs xs p)) (given (block r n hs (xs ++ ys) p))
+    grows-by zero hs p l = grows-step hs p (λ h q i j. absurd (omega (arith, i, j, l)))
+    grows-by (suc m) hs p l = grows-step hs p (λ h q i j. grows-by m (hs ++ (h ∷ [])) q (omega (arith, i, l)))
+
+    pub block-grows : (hs : List Header) (p : ℕ) → Starts (given (block r n hs xs p)) (given (block r n hs (xs ++ ys) p))
+    block-grows hs p = grows-by (length xs) hs p (omega arith)
+
+-- the slots of the headers that were given are as they were
+flat-append : (hs ks : List Header) → flat (hs ++ ks) ≡ flat hs ++ flat ks
+unfolding flat
+flat-append [] ks = refl
+flat-append (h ∷ hs) ks = ap (λ y. numbers h ++ y) (flat-append hs ks)
+
+pub slots-same : (hs all : List Header) (old : List ℕ) → Starts hs all → take (length hs * 4) (filled all old) ≡ take (length hs * 4) (filled hs old)
+unfolding filled
+slots-same hs all old s =
+    ap (λ y. take (length hs * 4) (y ++ drop (length all * 4) old)) (ap flat (s .whole) ∙ flat-append hs (s .more))
+    ∙ ap (take (length hs * 4)) (append-assoc (flat hs) (flat (s .more)) (drop (length all * 4) old))
+    ∙ take-at (flat hs) (flat (s .more) ++ drop (length all * 4) old) (length hs * 4) (length-flat hs)
+    ∙ sym (take-at (flat hs) (drop (length hs * 4) old) (length hs * 4) (length-flat hs))

@@ -1,0 +1,144 @@
+-- Two heads at the start of the same bytes are one head, with the same fields; so no head is the start of another.
+-- Assumes nothing.
+use Prim.Native.Nat.{ℕ, _+_, _≤_}
+use native.Mathlib.Omega.{arith}
+use mathlib.Core.Path.{_≡_, refl, sym, ap, subst, _∙_}
+use mathlib.Core.List.{List, [], _∷_, _++_}
+use lib.ListN.{length, take, drop, length-append}
+use lib.Seq.{take-at, drop-at}
+use Rattle.reader.specs.Machine.{gave, run}
+use Rattle.reader.specs.Answer.{got}
+use Rattle.rules.specs.Rules.{Rules, default}
+use Rattle.grammar.specs.Fields.{Field}
+use Rattle.grammar.specs.Message.{line-end, Version, HTTP-version, one-zero, one-one, RequestLine, request-line, request-head, StatusLine, status-line, response-head, header-block}
+use Rattle.grammar.specs.Message as grammar
+use Rattle.grammar.specs.Chunked.{chunk-line}
+use Rattle.fields.specs.declared.Header.{Header}
+use Rattle.startline.specs.declared.KnownPiece.{KnownPiece}
+use Rattle.startline.specs.declared.KnownPiece.the-variants as pieces
+use Rattle.startline.specs.declared.KnownNumber.{KnownNumber}
+use Rattle.startline.specs.declared.KnownNumber.the-variants as numbers
+use Rattle.requestline.specs.declared.RequestLine as told
+use Rattle.statusline.specs.declared.StatusLine as told-status
+use Rattle.heads.specs.Head.{Heads, Known}
+use Rattle.heads.specs.Calls.{request, response}
+use Rattle.chunks.specs.Chunk.{digits, chunkStep}
+use Rattle.agreement.specs.Fields.{fieldsOf}
+use Rattle.agreement.specs.Known.{Holds, Counts, RequestSays, StatusSays}
+use Rattle.agreement.specs.Exactly.{Exactly}
+use Rattle.agreement.specs.Calls.{request-exactly, response-exactly, headersOf, headers-exactly}
+use Rattle.agreement.specs.Chunk.{chunk-read}
+
+-- what an answer was given for is the same on either side
+same-got : {K : Type 0} {k k′ : K} {hs hs′ : List Header} {q q′ : ℕ} → _≡_ {A = Heads K} (got (k, hs) q) (got (k′, hs′) q′) → (k ≡ k′) × (hs ≡ hs′) × (q ≡ q′)
+same-got {K} {k} {k′} {hs} {hs′} e = let u : _≡_ {A = Known K} (k, hs) (k′, hs′) = cc in (ap (λ y. y .0) u, ap (λ y. y .1) u, cc)
+
+-- starts of the same bytes that are as long as each other
+same-start : (v s w t : List ℕ) → v ++ s ≡ w ++ t → length v ≡ length w → v ≡ w
+same-start v s w t e l = sym (take-at v s (length v) refl) ∙ ap (take (length v)) e ∙ take-at w t (length v) (sym l)
+
+-- and what is behind them
+same-rest : (v s w t : List ℕ) → v ++ s ≡ w ++ t → v ≡ w → s ≡ t
+same-rest v s w t e h = sym (drop-at v s (length v) refl) ∙ ap (drop (length v)) e ∙ drop-at w t (length v) (ap length (sym h))
+
+module _ {L K : Type 0} {Head : List ℕ → L → List Field → Type 0} {Says : List ℕ → K → L → Type 0} (read : ℕ → List ℕ → Heads K) (X : (n : ℕ) → Exactly Head Says n (read n))
+    (one-line : (v w : List ℕ) (l m : L) (fs gs : List Field) → Head v l fs → Head w m gs → (z : List ℕ) (k : K) → Says z k l → Says z k m → l ≡ m) where
+  one-head : (v s w t : List ℕ) {l m : L} {fs gs : List Field} → v ++ s ≡ w ++ t → Head v l fs → Head w m gs → (v ≡ w) × (l ≡ m) × (fs ≡ gs)
+  one-head v s w t {l} {m} {fs} {gs} e h i =
+      let n : ℕ = length fs + length gs in
+      let A = X n .complete v s l fs h (omega arith) in
+      let B = X n .complete w t m gs i (omega arith) in
+      let u = same-got (sym (A .answers) ∙ ap (read n) e ∙ B .answers) in
+      let says : Says (v ++ s) (A .k) m = subst (λ y. Says y (A .k) m) (sym e) (subst (λ y. Says (w ++ t) y m) (sym (u .0)) (B .says)) in
+      (same-start v s w t e (u .2), one-line v w l m fs gs h i (v ++ s) (A .k) (A .says) says, sym (A .holds) ∙ ap (λ y. fieldsOf y (A .hs)) e ∙ ap (fieldsOf (w ++ t)) (u .1) ∙ B .holds)
+
+holds-same : (z : List ℕ) (a : KnownPiece) {v w : List ℕ} → Holds z a v → Holds z a w → v ≡ w
+holds-same z (pieces.Is a) h i = sym h ∙ i
+holds-same z pieces.NotYet h i = absurd h
+
+counts-same : (a : KnownNumber) {m n : ℕ} → Counts a m → Counts a n → m ≡ n
+counts-same (numbers.Is a) h i = sym h ∙ i
+counts-same numbers.NotYet h i = absurd h
+
+-- under default the major number is 1
+version-one : {w : List ℕ} {v : Version} → HTTP-version default w v → v .major ≡ 1
+version-one one-zero = refl
+version-one one-one = refl
+version-one (grammar.HTTP-version.other t a b) = let n : _≡_ {A = ℕ} 0 1 = cc in absurd (omega arith)
+
+request-one : {w : List ℕ} {l : RequestLine} {fs : List Field} → request-head default w l fs → l .version .major ≡ 1
+request-one (grammar.head.message e (grammar.request-line.line m t v) c b) = version-one v
+
+response-one : {w : List ℕ} {l : StatusLine} {fs : List Field} → response-head default w l fs → l .version .major ≡ 1
+response-one (grammar.head.message e (grammar.status-line.reason v c x) d b) = version-one v
+response-one (grammar.head.message e (grammar.status-line.no-reason v c) d b) = version-one v
+response-one (grammar.head.message e (grammar.status-line.code-ends t v c) d b) = version-one v
+
+version-same : (u v : Version) → u .major ≡ 1 → v .major ≡ 1 → u .minor ≡ v .minor → u ≡ v
+version-same u v h i e = ap (λ y. record { major = y; minor = u .minor }) (h ∙ sym i) ∙ ap (λ y. record { major = v .major; minor = y }) e
+
+-- the heads of two requests that begin the same bytes
+pub one-request : (v s w t : List ℕ) {l m : RequestLine} {fs gs : List Field} → v ++ s ≡ w ++ t → request-head default v l fs → request-head default w m gs → (v ≡ w) × (l ≡ m) × (fs ≡ gs)
+one-request = one-head (request default) request-exactly one-line
+  where
+    one-line : (v w : List ℕ) (l m : RequestLine) (fs gs : List Field) → request-head default v l fs → request-head default w m gs → (z : List ℕ) (k : told.RequestLine) → RequestSays z k l → RequestSays z k m → l ≡ m
+    one-line v w l m fs gs h i z k a b =
+        ap (λ y. record { method = y; target = l .target; version = l .version }) (holds-same z (k .method) (a .method) (b .method))
+        ∙ ap (λ y. record { method = m .method; target = y; version = l .version }) (holds-same z (k .target) (a .target) (b .target))
+        ∙ ap (λ y. record { method = m .method; target = m .target; version = y }) (version-same (l .version) (m .version) (request-one h) (request-one i) (counts-same (k .version) (a .version) (b .version)))
+
+-- of two responses
+pub one-response : (v s w t : List ℕ) {l m : StatusLine} {fs gs : List Field} → v ++ s ≡ w ++ t → response-head default v l fs → response-head default w m gs → (v ≡ w) × (l ≡ m) × (fs ≡ gs)
+one-response = one-head (response default) response-exactly one-line
+  where
+    one-line : (v w : List ℕ) (l m : StatusLine) (fs gs : List Field) → response-head default v l fs → response-head default w m gs → (z : List ℕ) (k : told-status.StatusLine) → StatusSays z k l → StatusSays z k m → l ≡ m
+    one-line v w l m fs gs h i z k a b =
+        ap (λ y. record { version = y; code = l .code; reason = l .reason }) (version-same (l .version) (m .version) (response-one h) (response-one i) (counts-same (k .version) (a .version) (b .version)))
+        ∙ ap (λ y. record { version = m .version; code = y; reason = l .reason }) (counts-same (k .code) (a .code) (b .code))
+        ∙ ap (λ y. record { version = m .version; code = m .code; reason = y }) (holds-same z (k .reason) (a .reason) (b .reason))
+
+-- of two blocks
+pub one-block : (v s w t : List ℕ) {fs gs : List Field} → v ++ s ≡ w ++ t → header-block default v fs → header-block default w gs → (v ≡ w) × (fs ≡ gs)
+one-block v s w t e h i = let u = one-head headersOf headers-exactly (λ v w l m fs gs h i z k a b. refl) v s w t {l = tt} {m = tt} e h i in (u .0, u .2)
+
+-- of two chunk size lines
+pub one-chunk : (v s w t : List ℕ) {m n : ℕ} → v ++ s ≡ w ++ t → chunk-line default v m → chunk-line default w n → (v ≡ w) × (m ≡ n)
+one-chunk v s w t {m} {n} e h i =
+    let u : gave m (length v) ≡ gave n (length w) = sym (chunk-read h s) ∙ ap (run (chunkStep default) (digits 0 0) 0) e ∙ chunk-read i t in
+    let l : length v ≡ length w = cc in
+    (same-start v s w t e l, cc)
+
+-- heads one behind another, each with what it says
+pub data Row {L : Type 0} (Head : List ℕ → L → List Field → Type 0) : List ℕ → List (L × List Field) → Type 0 where
+  none : Row Head [] []
+  more : {w v : List ℕ} {l : L} {fs : List Field} {rest : List (L × List Field)} → Head w l fs → Row Head v rest → Row Head (w ++ v) ((l, fs) ∷ rest)
+
+-- no head is empty
+ends-long : {r : Rules} {e : List ℕ} → line-end r e → 1 ≤ length e
+ends-long grammar.crlf = omega arith
+ends-long (grammar.lf t) = omega arith
+
+block-long : {r : Rules} {w : List ℕ} {fs : List Field} → header-block r w fs → 1 ≤ length w
+block-long (grammar.header-block.end e) = ends-long e
+block-long (grammar.header-block.field {w = w} {e = e} {b = b} f d k) = omega (arith, length-append (w ++ e) b, block-long k)
+
+head-long : {r : Rules} {L : Type 0} {A : List ℕ → L → Type 0} {w : List ℕ} {l : L} {fs : List Field} → grammar.head r A w l fs → 1 ≤ length w
+head-long (grammar.head.message {e = e} {w = w} {c = c} {b = b} x l d k) = omega (arith, length-append (e ++ w ++ c) b, block-long k)
+
+module _ {L : Type 0} {Head : List ℕ → L → List Field → Type 0} (long : (w : List ℕ) (l : L) (fs : List Field) → Head w l fs → 1 ≤ length w)
+    (one : (v s w t : List ℕ) (l m : L) (fs gs : List Field) → v ++ s ≡ w ++ t → Head v l fs → Head w m gs → (v ≡ w) × (l ≡ m) × (fs ≡ gs)) where
+  -- the same bytes are no two rows of heads
+  one-row : {v w : List ℕ} {hs gs : List (L × List Field)} → Row Head v hs → Row Head w gs → v ≡ w → hs ≡ gs
+  one-row none none e = refl
+  one-row none (more {w = w} {v = v} {l = l} {fs = fs} h k) e = absurd (omega (arith, ap length e, length-append w v, long w l fs h))
+  one-row (more {w = w} {v = v} {l = l} {fs = fs} h k) none e = absurd (omega (arith, ap length e, length-append w v, long w l fs h))
+  one-row (more {w = w} {v = v} {l = l} {fs = fs} {rest = hs} h k) (more {w = w′} {v = v′} {l = l′} {fs = fs′} h′ k′) e =
+      let u = one w v w′ v′ l l′ fs fs′ e h h′ in
+      let r : v ≡ v′ = same-rest w v w′ v′ e (u .0) in
+      ap (λ y. (y, fs) ∷ hs) (u .1) ∙ ap (λ y. (l′, y) ∷ hs) (u .2) ∙ ap (λ y. (l′, fs′) ∷ y) (one-row k k′ r)
+
+pub one-row-of-requests : {v w : List ℕ} {hs gs : List (RequestLine × List Field)} → Row (request-head default) v hs → Row (request-head default) w gs → v ≡ w → hs ≡ gs
+one-row-of-requests = one-row (λ w l fs. head-long) (λ v s w t l m fs gs. one-request v s w t)
+
+pub one-row-of-responses : {v w : List ℕ} {hs gs : List (StatusLine × List Field)} → Row (response-head default) v hs → Row (response-head default) w gs → v ≡ w → hs ≡ gs
+one-row-of-responses = one-row (λ w l fs. head-long) (λ v s w t l m fs gs. one-response v s w t)

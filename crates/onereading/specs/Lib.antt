@@ -1,0 +1,6 @@
+pub mod Later
+pub mod Lines
+pub mod Blocks
+pub mod Stays
+pub mod Derivation
+pub mod RoundTrip

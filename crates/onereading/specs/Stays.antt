@@ -1,0 +1,162 @@
+-- An answer never changes when more bytes arrive: what each call told on s it tells on s and anything behind it.
+-- Assumes nothing.
+use Prim.Native.Nat.{ℕ, _+_, _*_, _/_, _≤_}
+use native.Mathlib.Omega.{arith}
+use mathlib.Core.Path.{_≡_, refl, sym, ap, subst, _∙_}
+use mathlib.Core.List.{List, [], _∷_, _++_, append-assoc}
+use lib.ListN.{length, take, drop, length-append}
+use lib.Seq.{take-at}
+use Rattle.reader.specs.Machine.{Step, runAt}
+use Rattle.reader.specs.Seq.{first}
+use Rattle.reader.specs.Answer.{Answer, got, short, bad, answer, lapwise}
+use Rattle.reader.specs.Chain.{nothing}
+use Rattle.reader.specs.Branch.{fresh}
+use Rattle.rules.specs.Rules.{Rules, default}
+use Rattle.parts.specs.declared.Error.{Error}
+use Rattle.parts.specs.declared.Passed.{Passed}
+use Rattle.parts.specs.declared.Passed.the-variants.{At, More, Bad}
+use Rattle.parts.specs.EmptyLines.{start}
+use Rattle.fields.specs.declared.Header.{Header}
+use Rattle.blocks.specs.declared.Block.{Block}
+use Rattle.blocks.specs.Slots.{flat, filled, length-flat}
+use Rattle.blocks.specs.Block.{blockStep, block}
+use Rattle.blocks.specs.Block as blocks
+use Rattle.startline.specs.Answers.{tell}
+use Rattle.requestline.specs.declared.RequestLine.{RequestLine}
+use Rattle.requestline.specs.RequestLine as requests
+use Rattle.statusline.specs.declared.StatusLine.{StatusLine}
+use Rattle.statusline.specs.StatusLine as statuses
+use Rattle.heads.specs.Head.{Heads, Known, headStep, headKnown, over, headed, head-parts, given, Told}
+use Rattle.heads.specs.Head as heads
+use Rattle.heads.specs.Calls.{request, response}
+use Rattle.chunks.specs.declared.ChunkSize.{ChunkSize}
+use Rattle.chunks.specs.declared.ChunkSize.the-variants as sizes
+use Rattle.chunks.specs.Chunk.{digits, chunkStep, chunk, sizeOf}
+use Rattle.agreement.specs.Inside.{knownOf}
+use Rattle.agreement.specs.Exactly.{given-over, head-line}
+use Rattle.agreement.specs.Calls.{alone, given-block, alone-told}
+use Rattle.onereading.specs.Later.{Later, same, waited, later}
+use Rattle.onereading.specs.Lines.{SameRequest, request-line-grows, SameStatus, status-line-grows}
+use Rattle.onereading.specs.Blocks.{Starts, block-grows, slots-same}
+
+-- what a call told on s, and what it told (with primes) on s and more bytes, over the same slots
+pub record HeadStays {K : Type 0} (Same : K → K → Type 0) (end end′ : Passed) (line line′ : K) (count count′ : ℕ) (new new′ : List ℕ) : Type 0 where
+  -- complete stays complete with the same end and fields, and an error the same error, with the same fields, count and slots
+  pub decided : (end ≡ More → ⊥) → (end′ ≡ end) × (line′ ≡ line) × (count′ ≡ count) × (new′ ≡ new)
+  -- what was known before the end was reached is unchanged
+  pub known : Same line line′
+  pub headers : (count ≤ count′) × (take (count * 4) new′ ≡ take (count * 4) new)
+
+module _ {K : Type 0} where
+  told-same : {a : Heads K} {end end′ : Passed} {line line′ : K} {count count′ : ℕ} {old new new′ : List ℕ} → Told a end line count old new → Told a end′ line′ count′ old new′ → (end′ ≡ end) × (line′ ≡ line) × (count′ ≡ count) × (new′ ≡ new)
+  told-same {a} {end} {end′} {line} {line′} T U =
+      let u = tells end end′ line line′ (given a) (T .answer ∙ sym (U .answer)) in
+      (u .0, u .1, U .count-is ∙ sym (T .count-is), U .slots ∙ sym (T .slots))
+    where
+      tells : (end end′ : Passed) (line line′ : K) (hs : List Header) → _≡_ {A = Heads K} (tell end (line, hs)) (tell end′ (line′, hs)) → (end′ ≡ end) × (line′ ≡ line)
+      tells (At q) (At q′) line line′ hs e = let u : _≡_ {A = Known K} (line, hs) (line′, hs) = cc in (cc, sym (ap (λ y. y .0) u))
+      tells More More line line′ hs e = let u : _≡_ {A = Known K} (line, hs) (line′, hs) = cc in (refl, sym (ap (λ y. y .0) u))
+      tells (Bad x) (Bad x′) line line′ hs e = let u : _≡_ {A = Error × Known K} (x, (line, hs)) (x′, (line′, hs)) = cc in (ap (λ y. Bad (y .0)) (sym u), sym (ap (λ y. y .1 .0) u))
+      tells (At q) More line line′ hs e = let n : _≡_ {A = ℕ} 0 1 = cc in absurd (omega arith)
+      tells (At q) (Bad x) line line′ hs e = let n : _≡_ {A = ℕ} 0 1 = cc in absurd (omega arith)
+      tells More (At q) line line′ hs e = let n : _≡_ {A = ℕ} 0 1 = cc in absurd (omega arith)
+      tells More (Bad x) line line′ hs e = let n : _≡_ {A = ℕ} 0 1 = cc in absurd (omega arith)
+      tells (Bad x) (At q) line line′ hs e = let n : _≡_ {A = ℕ} 0 1 = cc in absurd (omega arith)
+      tells (Bad x) More line line′ hs e = let n : _≡_ {A = ℕ} 0 1 = cc in absurd (omega arith)
+
+  -- how a call ended where the reader waited
+  told-more : (end : Passed) (k : Known K) (u : Known K) → _≡_ {A = Heads K} (tell end k) (short u) → end ≡ More
+  told-more (At q) k u e = let n : _≡_ {A = ℕ} 0 1 = cc in absurd (omega arith)
+  told-more More k u e = refl
+  told-more (Bad x) k u e = let n : _≡_ {A = ℕ} 0 1 = cc in absurd (omega arith)
+
+  decides : {a b : Heads K} {end end′ : Passed} {line line′ : K} {count count′ : ℕ} {old new new′ : List ℕ} → Later a b → Told a end line count old new → Told b end′ line′ count′ old new′ → (end ≡ More → ⊥) → (end′ ≡ end) × (line′ ≡ line) × (count′ ≡ count) × (new′ ≡ new)
+  decides same T U n = told-same T U
+  decides {end = end} {line = line} (waited {u = u}) T U n = absurd (n (told-more end (line, u .1) u (T .answer)))
+
+  -- the line that an answer tells is what the reader knows of it
+  told-line : {a : Heads K} {end : Passed} {line : K} {count : ℕ} {old new : List ℕ} → Told a end line count old new → knownOf a .0 ≡ line
+  told-line {a} {end} {line} T = ap (λ (y : Heads K). knownOf y .0) (sym (T .answer)) ∙ by end
+    where
+      by : (end : Passed) → knownOf {K = Known K} {E = Error} (tell end (line, given a)) .0 ≡ line
+      by (At q) = refl
+      by More = refl
+      by (Bad x) = refl
+
+  stays : (Same : K → K → Type 0) {a b : Heads K} {end end′ : Passed} {line line′ : K} {count count′ : ℕ} {old new new′ : List ℕ} → Later a b → Same (knownOf a .0) (knownOf b .0) → Starts (given a) (given b) → Told a end line count old new → Told b end′ line′ count′ old new′ → HeadStays Same end end′ line line′ count count′ new new′
+  stays Same {a} {b} {line = line} {line′ = line′} {count = count} {old = old} {new = new} {new′ = new′} L k s T U = record {
+    decided = decides L T U;
+    known = subst (λ y. Same y line′) (told-line T) (subst (Same (knownOf a .0)) (told-line U) k);
+    headers = (
+      omega (arith, T .count-is, U .count-is, ap length (s .whole), length-append (given a) (s .more)),
+      ap (λ y. take (y * 4) new′) (T .count-is) ∙ ap (take (length (given a) * 4)) (U .slots) ∙ slots-same (given a) (given b) old s ∙ sym (ap (take (length (given a) * 4)) (T .slots)) ∙ sym (ap (λ y. take (y * 4) new) (T .count-is)),
+    );
+  }
+
+-- a head by its line and its block
+module _ (r : Rules) (n : ℕ) {K S : Type 0} (m : Step S K (Error × K)) (known : S → K) (s : S) where
+  fields-grow : (xs ys : List ℕ) {a b : Answer K K (Error × K)} → Later a b → Starts (given (headed a (λ k q. over k (block r n [] xs q)))) (given (headed b (λ k q. over k (block r n [] (xs ++ ys) q))))
+  fields-grow xs ys (same {a = got k q}) = subst (λ y. Starts y (given (over k (block r n [] (xs ++ ys) q)))) (sym (given-over k (block r n [] xs q))) (subst (Starts (blocks.given (block r n [] xs q))) (sym (given-over k (block r n [] (xs ++ ys) q))) (block-grows r n xs ys [] q))
+  fields-grow xs ys (same {a = short k}) = record { more = []; whole = refl }
+  fields-grow xs ys (same {a = bad x}) = record { more = []; whole = refl }
+  fields-grow xs ys waited = record { more = _; whole = refl }
+
+  head-fields : (xs ys : List ℕ) → Starts (given (heads.head r n m known s xs)) (given (heads.head r n m known s (xs ++ ys)))
+  head-fields xs ys =
+      subst (λ y. Starts (given y) (given (heads.head r n m known s (xs ++ ys)))) (sym (head-parts r n m known s xs))
+      (subst (λ y. Starts (given (headed (answer known (runAt m s xs 0)) (λ k q. over k (block r n [] xs q)))) (given y)) (sym (head-parts r n m known s (xs ++ ys)))
+      (fields-grow xs ys (later known m s xs ys 0)))
+
+  pub head-stays : (Same : K → K → Type 0) (xs ys : List ℕ) → Same (knownOf (answer known (runAt m s xs 0))) (knownOf (answer known (runAt m s (xs ++ ys) 0))) → {end end′ : Passed} {line line′ : K} {count count′ : ℕ} {old new new′ : List ℕ} → Told (heads.head r n m known s xs) end line count old new → Told (heads.head r n m known s (xs ++ ys)) end′ line′ count′ old new′ → HeadStays Same end end′ line line′ count count′ new new′
+  head-stays Same xs ys k T U =
+      stays Same (later (headKnown r n m known s) (headStep r n m known s) (first s) xs ys 0)
+      (subst (λ y. Same y (knownOf (heads.head r n m known s (xs ++ ys)) .0)) (sym (head-line r n m known s xs)) (subst (Same (knownOf (answer known (runAt m s xs 0)))) (sym (head-line r n m known s (xs ++ ys))) k))
+      (head-fields xs ys) T U
+
+module _ (n : ℕ) (s t : List ℕ) {old : List ℕ} {end end′ : Passed} {count count′ : ℕ} {new new′ : List ℕ} where
+  pub request-stays : {line line′ : RequestLine} → Told (request default n s) end line count old new → Told (request default n (s ++ t)) end′ line′ count′ old new′ → HeadStays SameRequest end end′ line line′ count count′ new new′
+  unfolding request
+  request-stays T U = head-stays default n (requests.requestLineStep default) requests.lineKnown (first start) SameRequest s t (request-line-grows default s t) T U
+
+  pub response-stays : {line line′ : StatusLine} → Told (response default n s) end line count old new → Told (response default n (s ++ t)) end′ line′ count′ old new′ → HeadStays SameStatus end end′ line line′ count count′ new new′
+  unfolding response
+  response-stays T U = head-stays default n (statuses.statusLineStep default) statuses.lineKnown (first start) SameStatus s t (status-line-grows default s t) T U
+
+-- headers alone: nothing is told but them
+alone-later : {a b : blocks.Blocks} → Later a b → Later (alone a) (alone b)
+alone-later same = same
+alone-later waited = waited
+
+-- there is no start line to be told
+abbrev pub NoLine : Unit {0} → Unit {0} → Type 0
+NoLine k l = Unit {0}
+
+pub headers-stays : (n : ℕ) (s t : List ℕ) {r r′ : Block} {old new new′ : List ℕ} → blocks.Told (block default n [] s 0) r old new → blocks.Told (block default n [] (s ++ t) 0) r′ old new′ → HeadStays NoLine (r .end) (r′ .end) tt tt (r .count) (r′ .count) new new′
+headers-stays n s t T U =
+    stays NoLine (alone-later (later (lapwise (λ hs _. hs)) (blockStep default n) ([], fresh) s t 0)) tt
+    (subst (λ y. Starts y (given (alone (block default n [] (s ++ t) 0)))) (sym (given-block (block default n [] s 0))) (subst (Starts (blocks.given (block default n [] s 0))) (sym (given-block (block default n [] (s ++ t) 0))) (block-grows default n s t [] 0)))
+    (alone-told T) (alone-told U)
+
+-- a chunk size line
+size-same : (r r′ : ChunkSize) → sizeOf r ≡ sizeOf r′ → r′ ≡ r
+size-same (sizes.Complete q n) (sizes.Complete p m) e = cc
+size-same sizes.Incomplete sizes.Incomplete e = refl
+size-same sizes.Invalid sizes.Invalid e = refl
+size-same (sizes.Complete q n) sizes.Incomplete e = let z : _≡_ {A = ℕ} 0 1 = cc in absurd (omega arith)
+size-same (sizes.Complete q n) sizes.Invalid e = let z : _≡_ {A = ℕ} 0 1 = cc in absurd (omega arith)
+size-same sizes.Incomplete (sizes.Complete p m) e = let z : _≡_ {A = ℕ} 0 1 = cc in absurd (omega arith)
+size-same sizes.Incomplete sizes.Invalid e = let z : _≡_ {A = ℕ} 0 1 = cc in absurd (omega arith)
+size-same sizes.Invalid (sizes.Complete p m) e = let z : _≡_ {A = ℕ} 0 1 = cc in absurd (omega arith)
+size-same sizes.Invalid sizes.Incomplete e = let z : _≡_ {A = ℕ} 0 1 = cc in absurd (omega arith)
+
+size-waits : (r : ChunkSize) {u : Unit {0}} → sizeOf r ≡ short u → r ≡ sizes.Incomplete
+size-waits (sizes.Complete q n) e = let z : _≡_ {A = ℕ} 0 1 = cc in absurd (omega arith)
+size-waits sizes.Incomplete e = refl
+size-waits sizes.Invalid e = let z : _≡_ {A = ℕ} 0 1 = cc in absurd (omega arith)
+
+chunk-by : {a b : Answer (Unit {0}) ℕ (Unit {0})} {r r′ : ChunkSize} → Later a b → sizeOf r ≡ a → sizeOf r′ ≡ b → (r ≡ sizes.Incomplete → ⊥) → r′ ≡ r
+chunk-by {r = r} {r′ = r′} same T U n = size-same r r′ (T ∙ sym U)
+chunk-by {r = r} waited T U n = absurd (n (size-waits r T))
+
+pub chunk-stays : (s t : List ℕ) {r r′ : ChunkSize} → sizeOf r ≡ chunk default s → sizeOf r′ ≡ chunk default (s ++ t) → (r ≡ sizes.Incomplete → ⊥) → r′ ≡ r
+chunk-stays s t T U n = chunk-by (later nothing (chunkStep default) (digits 0 0) s t 0) T U n

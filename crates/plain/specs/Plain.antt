@@ -1,0 +1,25 @@
+-- The plain form of a head: its fields written with no more than the RFCs ask for, and nothing that is a leniency.
+-- Assumes nothing.
+use Prim.Native.Nat.{ℕ, _+_, _/_, _%_}
+use mathlib.Core.List.{List, [], _∷_, _++_}
+use Rattle.grammar.specs.Fields.{Field}
+use Rattle.grammar.specs.Message.{space, colon, CRLF, Version, HTTP-name, RequestLine, StatusLine}
+
+-- HTTP/1.v, where the minor number is a digit
+abbrev pub plain-version : Version → List ℕ
+plain-version v = HTTP-name ++ (0x2F ∷ (0x30 + v .major) ∷ 0x2E ∷ (0x30 + v .minor) ∷ [])
+
+-- three digits
+abbrev pub plain-code : ℕ → List ℕ
+plain-code n = (0x30 + n / 100) ∷ (0x30 + n / 10 % 10) ∷ (0x30 + n % 10) ∷ []
+
+-- a name, a colon, one space, a value, CR LF; and an empty line behind the last
+abbrev pub plain-fields : List Field → List ℕ
+plain-fields [] = CRLF
+plain-fields (f ∷ fs) = f .name ++ colon ++ space ++ f .value ++ CRLF ++ plain-fields fs
+
+abbrev pub plain-request : RequestLine → List Field → List ℕ
+plain-request l fs = l .method ++ space ++ l .target ++ space ++ plain-version (l .version) ++ CRLF ++ plain-fields fs
+
+abbrev pub plain-response : StatusLine → List Field → List ℕ
+plain-response l fs = plain-version (l .version) ++ space ++ plain-code (l .code) ++ space ++ l .reason ++ CRLF ++ plain-fields fs
