@@ -34,6 +34,7 @@ use Rattle.agreement.specs.Places.{at-start}
 use Rattle.agreement.specs.Fields.{fieldsOf, block-derived, block-read, block-over, few-fields, Each, fields-in}
 use Rattle.agreement.specs.FieldLine.{HeaderIn}
 use Rattle.agreement.specs.Inside.{request-line-in, status-line-in}
+use Rattle.agreement.specs.Full.{request-refuses, status-refuses, block-full}
 use Rattle.agreement.specs.Starts.{Fixed}
 use Rattle.agreement.specs.Known.{RequestSays, StatusSays, RequestInside, StatusInside}
 use Rattle.agreement.specs.Request.{request-derived, request-read}
@@ -49,13 +50,13 @@ module _ (n : ℕ) where
   pub request-exactly : Exactly (request-head default) RequestSays n (request default n)
   unfolding request
   request-exactly =
-      exactly default n (requests.requestLineStep default) requests.lineKnown (first start) (exact-request-line default) (request-line default) RequestSays
+      exactly default n (requests.requestLineStep default) requests.lineKnown (first start) (exact-request-line default) (request-refuses default) (request-line default) RequestSays
       (λ z w rest k h g. request-derived default-fixed h g) (λ z e l c rest g h a b d. request-read default-fixed h a b d)
 
   pub response-exactly : Exactly (response-head default) StatusSays n (response default n)
   unfolding response
   response-exactly =
-      exactly default n (statuses.statusLineStep default) statuses.lineKnown (first start) (exact-status-line default) (status-line default) StatusSays
+      exactly default n (statuses.statusLineStep default) statuses.lineKnown (first start) (exact-status-line default) (status-refuses default) (status-line default) StatusSays
       (λ z w rest k h g. response-derived default-fixed h g) (λ z e l c rest g h a b d. response-read default-fixed h a b d)
 
 module _ (n : ℕ) where
@@ -117,6 +118,7 @@ module _ (n : ℕ) where
         let j : n - 0 ≡ n = omega arith in
         record { k = tt; hs = F .new; says = tt; holds = F .holds ∙ ap (λ y. take y fs) j; answers = ap alone (F .answers) };
     few = λ z. subst (λ y. length y ≤ n) (sym (given-block (block default n [] z 0))) (few-fields z default n [] 0 (omega arith));
+    full = λ z x e. block-full default n z (x .1) (bad-block (block default n [] z 0) (TooManyHeaders, x) e);
     stays = λ s u x e. ap alone (bad-stays (lapwise (λ hs _. hs)) (blockStep default n) s u ([], fresh) 0 (bad-block (block default n [] s 0) x e));
   }
 

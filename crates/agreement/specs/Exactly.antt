@@ -25,6 +25,7 @@ use Rattle.agreement.specs.Places.{At, at-start, at-as, at-first, at-sec
 use Rattle.agreement.specs.Fields.{fieldsOf, block-derived, block-read, block-over, few-fields, Each, fields-in}
 use Rattle.agreement.specs.FieldLine.{HeaderIn}
 use Rattle.agreement.specs.Inside.{knownOf}
+use Rattle.agreement.specs.Full.{Refuses, OrdinaryLine, head-full}
 use Rattle.agreement.specs.Steps.{passed-is, Started, LineRead}
 
 module _ {L K : Type 0} (Head : List ℕ → L → List Field → Type 0) (Says : List ℕ → K → L → Type 0) (n : ℕ) where
@@ -52,6 +53,7 @@ module _ {L K : Type 0} (Head : List ℕ → L → List Field → Type 0) (Says 
     pub complete : (w rest : List ℕ) (l : L) (fs : List Field) → Head w l fs → length fs ≤ n → Tells (w ++ rest) l fs (λ k hs. got (k, hs) (length w)) (read (w ++ rest))
     pub too-many : (w rest : List ℕ) (l : L) (fs : List Field) → Head w l fs → n < length fs → Tells (w ++ rest) l (take n fs) (λ k hs. bad (TooManyHeaders, (k, hs))) (read (w ++ rest))
     pub few : (z : List ℕ) → length (given (read z)) ≤ n
+    pub full : (z : List ℕ) (x : Known K) → read z ≡ bad (TooManyHeaders, x) → n ≤ length (x .1)
     pub stays : (s u : List ℕ) (x : Error × Known K) → read s ≡ bad x → read (s ++ u) ≡ bad x
 
 -- every place that a reader tells lies in the input, whatever it answers
@@ -93,7 +95,7 @@ module _ (r : Rules) (n : ℕ) {K S : Type 0} (m : Step S K (Error × K)) (known
     fields = λ z. head-given (Each (HeaderIn (length z))) tt z (λ q. fields-in z r n [] q tt);
   }
 
-module _ (r : Rules) (n : ℕ) {L K S : Type 0} (m : Step S K (Error × K)) (known : S → K) (s : S) {G : Relation K} (M : Exact m s G)
+module _ (r : Rules) (n : ℕ) {L K S : Type 0} (m : Step S K (Error × K)) (known : S → K) (s : S) {G : Relation K} (M : Exact m s G) (ordinary : Refuses OrdinaryLine m)
     (start-line : List ℕ → L → Type 0) (Says : List ℕ → K → L → Type 0)
     (derived : (z w rest : List ℕ) (k : K) → At z 0 w rest → G 0 w k rest → Started r start-line (Says z k) w)
     (reads : (z e l c rest : List ℕ) (g : L) → At z 0 (e ++ l ++ c) rest → empty-lines r e → start-line l g → line-end r c → LineRead Says G z 0 (e ++ l ++ c) g rest) where
@@ -155,5 +157,6 @@ module _ (r : Rules) (n : ℕ) {L K S : Type 0} (m : Step S K (Error × K)) (kno
     complete = complete-head;
     too-many = over-head;
     few = λ z. head-given r n m known s (λ hs. length hs ≤ n) (omega arith) z (λ q. few-fields z r n [] q (omega arith));
+    full = head-full r n m known s ordinary;
     stays = λ z u x. bad-stays (headKnown r n m known s) (headStep r n m known s) z u (first s) 0;
   }

@@ -152,6 +152,7 @@ module _ {L K : Type 0} {Head : List ℕ → L → List Field → Type 0} {Says 
     error = errs;
     error-at-all = errs-at-all;
     incomplete = waits;
+    full = λ e. omega (arith, T .count-is, X .few s, X .full s (line, given (read s)) (read-bad TooManyHeaders e));
     inside = (subst (In (length s)) line-told (Y .line s), subst (λ y. SlotsInside (length s) y new) (sym (T .count-is)) (subst (SlotsInside (length s) (length (given (read s)))) (sym (T .slots)) (slots-in (length s) (given (read s)) old (Y .fields s))));
     within = (subst (λ y. y ≤ length old / 4) (sym (T .count-is)) (X .few s), ap length (T .slots) ∙ filled-length (given (read s)) old (X .few s));
     untouched = ap (λ y. drop (y * 4) new) (T .count-is) ∙ ap (drop (length (given (read s)) * 4)) (T .slots) ∙ kept-behind (given (read s)) old ∙ sym (ap (λ y. drop (y * 4) old) (T .count-is));

@@ -11,6 +11,7 @@ pub mod Starts
 pub mod Steps
 pub mod Known
 pub mod Inside
+pub mod Full
 pub mod Request
 pub mod Tail
 pub mod Response

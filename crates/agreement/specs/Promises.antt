@@ -39,6 +39,8 @@ pub record HeadPromise {L K : Type 0} (Head : List ℕ → L → List Field → 
   pub error : (e : Error) → end ≡ Bad e → (u w t : List ℕ) (l : L) (fs : List Field) → s ++ u ≡ w ++ t → Head w l fs → length fs ≤ length old / 4 → ⊥
   -- an error other than TooManyHeaders means that no head starts here at all
   pub error-at-all : (e : Error) → end ≡ Bad e → (e ≡ TooManyHeaders → ⊥) → (u w t : List ℕ) (l : L) (fs : List Field) → s ++ u ≡ w ++ t → Head w l fs → ⊥
+  -- TooManyHeaders means that the slots are full
+  pub full : end ≡ Bad TooManyHeaders → count ≡ length old / 4
   -- incomplete means that no head has ended yet
   pub incomplete : end ≡ More → (w t : List ℕ) (l : L) (fs : List Field) → s ≡ w ++ t → Head w l fs → ⊥
   -- whatever the answer is, every place that is told lies in the input

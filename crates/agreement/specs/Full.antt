@@ -1,0 +1,266 @@
+-- TooManyHeaders is answered only where the slots are full.
+-- Assumes nothing.
+use Prim.Native.Nat.{ℕ, _+_, _≤_}
+use native.Mathlib.Omega.{arith}
+use mathlib.Core.Path.{_≡_, refl, sym, ap, subst, _∙_}
+use mathlib.Core.List.{List, [], _∷_, _++_}
+use mathlib.Core.Bool.{Bool, true, false, cond, _&&_}
+use lib.Dec.{eqb, ltb}
+use lib.ListN.{length}
+use borrow.Author.Tests.{ltb-false}
+use Rattle.reader.specs.Machine.{Move, keep, give, before, refuse, Run, more, gave, refused, Step, after, run}
+use Rattle.reader.specs.Judged.{Verdict, pass, fail, given, left, moved, judged}
+use Rattle.reader.specs.Seq.{Then, first, second, onward, cross, seq}
+use Rattle.reader.specs.Loop.{Turn, again, done, turned, loop}
+use Rattle.reader.specs.Branch.{Branch, fresh, one, other, lifted, branch}
+use Rattle.reader.specs.Answer.{bad, answered-bad, lapwise}
+use Rattle.reader.specs.Chain.{part}
+use Rattle.octets.specs.Class.{isDigit, isBlank, isToken, isTarget, isValue}
+use Rattle.utf8.specs.Reader.{whole}
+use Rattle.rules.specs.Rules.{Rules}
+use Rattle.parts.specs.declared.Error.{Error}
+use Rattle.parts.specs.declared.Error.the-variants.{HeaderName, HeaderValue, NewLine, Status, Token, TooManyHeaders, Version}
+use Rattle.parts.specs.declared.Piece.{Piece}
+use Rattle.parts.specs.LineEnd.{LineEnd, begin, cr, lineEndStep}
+use Rattle.parts.specs.EmptyLines.{EmptyLines, start, cr as behind-cr, emptyLinesStep}
+use Rattle.words.specs.Word.{Word, none, some, wordStep}
+use Rattle.words.specs.Target.{Target, targetStep}
+use Rattle.words.specs.Target as targets
+use Rattle.versions.specs.Version.{name, versionStep}
+use Rattle.spaces.specs.Space.{spaceStep, behindCodeStep}
+use Rattle.status.specs.Code.{Code, codeStep}
+use Rattle.status.specs.Code as codes
+use Rattle.status.specs.Reason.{Reason, reasonStep}
+use Rattle.status.specs.Reason as reasons
+use Rattle.values.specs.Value.{Value, blanks, inside, valueStep}
+use Rattle.fields.specs.declared.Header.{Header}
+use Rattle.fields.specs.Line.{Kind, header, end, named, fieldStep, ends, LineState, lineStep}
+use Rattle.blocks.specs.Block.{taken, lapStep, blockStep, block}
+use Rattle.requestline.specs.RequestLine as requests
+use Rattle.statusline.specs.StatusLine as statuses
+use Rattle.heads.specs.Head.{Known, blockOn, headStep, headKnown}
+use Rattle.heads.specs.Head as heads
+use Rattle.leaves.specs.Rows.{split}
+
+-- what is refused satisfies P
+abbrev pub Refusal : {S A F : Type 0} → (F → Type 0) → Move S A F → Type 0
+Refusal P (keep s) = Unit {0}
+Refusal P (give a) = Unit {0}
+Refusal P (before a) = Unit {0}
+Refusal P (refuse e) = P e
+
+abbrev pub Refuses : {S A F : Type 0} → (F → Type 0) → Step S A F → Type 0
+Refuses {S} P m = (s : S) (p b : ℕ) → Refusal P (m s p b)
+
+module _ {S A F : Type 0} (P : F → Type 0) (m : Step S A F) (R : Refuses P m) where
+  refused-step : (bs : List ℕ) (p : ℕ) (e : F) (q : ℕ) (v : Move S A F) → Refusal P v → ((s : S) → run m s (p + 1) bs ≡ refused e q → P e) → after v p (λ s. run m s (p + 1) bs) ≡ refused e q → P e
+  refused-step bs p e q (keep s) h ih u = ih s u
+  refused-step bs p e q (give a) h ih u = let n : _≡_ {A = ℕ} 0 1 = cc in absurd (omega arith)
+  refused-step bs p e q (before a) h ih u = let n : _≡_ {A = ℕ} 0 1 = cc in absurd (omega arith)
+  refused-step bs p e q (refuse x) h ih u = let n : x ≡ e = cc in subst P n h
+
+  refused-is : (bs : List ℕ) (s : S) (p : ℕ) (e : F) (q : ℕ) → run m s p bs ≡ refused e q → P e
+  refused-is [] s p e q u = let n : _≡_ {A = ℕ} 0 1 = cc in absurd (omega arith)
+  refused-is (b ∷ bs) s p e q u = refused-step bs p e q (m s p b) (R s p b) (λ s′. refused-is bs s′ (p + 1) e q) u
+
+-- machines made of machines
+module _ {S A B E F : Type 0} (P : E → Type 0) (Q : F → Type 0) (f : A → Verdict B F) (g : E → F) (m : Step S A E) where
+  verdict-given : (v : Verdict B F) → ((x : F) → v ≡ fail x → Q x) → Refusal Q (given {S = S} f g v)
+  verdict-given (pass b) h = tt
+  verdict-given (fail x) h = h x refl
+
+  verdict-left : (v : Verdict B F) → ((x : F) → v ≡ fail x → Q x) → Refusal Q (left {S = S} f g v)
+  verdict-left (pass b) h = tt
+  verdict-left (fail x) h = h x refl
+
+  judged-move : ((a : A) (x : F) → f a ≡ fail x → Q x) → ((e : E) → P e → Q (g e)) → (v : Move S A E) → Refusal P v → Refusal Q (moved f g v)
+  judged-move h k (keep s) r = tt
+  judged-move h k (give a) r = verdict-given (f a) (h a)
+  judged-move h k (before a) r = verdict-left (f a) (h a)
+  judged-move h k (refuse e) r = k e r
+
+  refuses-judged : ((a : A) (x : F) → f a ≡ fail x → Q x) → ((e : E) → P e → Q (g e)) → Refuses P m → Refuses Q (judged f g m)
+  refuses-judged h k R s p b = judged-move h k (m s p b) (R s p b)
+
+onward-move : (S : Type 0) {A T B F : Type 0} (P : F → Type 0) (a : A) (v : Move T B F) → Refusal P v → Refusal P (onward {S = S} a v)
+onward-move S P a (keep t) r = tt
+onward-move S P a (give b) r = tt
+onward-move S P a (before b) r = tt
+onward-move S P a (refuse e) r = r
+
+module _ {S A T B F : Type 0} (P : F → Type 0) where
+  cross-move : (v : Move S A F) → Refusal P v → (go : A → T) (k : A → Move T B F) → ((a : A) → Refusal P (k a)) → Refusal P (cross v go k)
+  cross-move (keep s) r go k h = tt
+  cross-move (give a) r go k h = tt
+  cross-move (before a) r go k h = onward-move S P a (k a) (h a)
+  cross-move (refuse e) r go k h = r
+
+  refuses-seq : (m : Step S A F) (go : A → T) (n : A → Step T B F) → Refuses P m → ((a : A) → Refuses P (n a)) → Refuses P (seq m go n)
+  refuses-seq m go n M N (first s) p b = cross-move (m s p b) (M s p b) go (λ a. n a (go a) p b) (λ a. N a (go a) p b)
+  refuses-seq m go n M N (second a t) p b = onward-move S P a (n a t p b) (N a t p b)
+
+module _ {A F : Type 0} (P : F → Type 0) where
+  lifted-move : {S T : Type 0} (f : S → T) (v : Move S A F) → Refusal P v → Refusal P (lifted f v)
+  lifted-move f (keep s) r = tt
+  lifted-move f (give a) r = tt
+  lifted-move f (before a) r = tt
+  lifted-move f (refuse e) r = r
+
+  refuses-branch : {S T : Type 0} (test : ℕ → Bool) (m : Step S A F) (s : S) (n : Step T A F) (t : T) → Refuses P m → Refuses P n → Refuses P (branch test m s n t)
+  refuses-branch test m s n t M N fresh p b = split (Refusal P) (test b) (λ _. lifted-move one (m s p b) (M s p b)) (λ _. lifted-move other (n t p b) (N t p b))
+  refuses-branch test m s n t M N (one u) p b = lifted-move one (m u p b) (M u p b)
+  refuses-branch test m s n t M N (other u) p b = lifted-move other (n u p b) (N u p b)
+
+module _ {A S B F : Type 0} (P : F → Type 0) (go : A → S) where
+  turned-move : (a : A) (v : Move S (Turn A B) F) (k : A → Move (A × S) B F) → Refusal P v → ((a′ : A) → Refusal P (k a′)) → Refusal P (turned go a v k)
+  turned-move a (keep s) k r h = tt
+  turned-move a (give (again x)) k r h = tt
+  turned-move a (give (done x)) k r h = tt
+  turned-move a (before (again x)) k r h = h x
+  turned-move a (before (done x)) k r h = tt
+  turned-move a (refuse e) k r h = r
+
+  refuses-loop : (m : A → Step S (Turn A B) F) → ((a : A) → Refuses P (m a)) → Refuses P (loop go m)
+  refuses-loop m M c p b =
+      turned-move (c .0) (m (c .0) (c .1) p b) _ (M (c .0) (c .1) p b)
+      (λ a′. turned-move a′ (m a′ (go a′) p b) _ (M a′ (go a′) p b) (λ a″. tt))
+
+-- an error that says nothing of slots
+abbrev pub Ordinary : Error → Type 0
+Ordinary e = e ≡ TooManyHeaders → ⊥
+
+name-ordinary : Ordinary HeaderName
+name-ordinary e = let n : _≡_ {A = ℕ} 0 1 = cc in omega arith
+
+value-ordinary : Ordinary HeaderValue
+value-ordinary e = let n : _≡_ {A = ℕ} 0 1 = cc in omega arith
+
+line-ordinary : Ordinary NewLine
+line-ordinary e = let n : _≡_ {A = ℕ} 0 1 = cc in omega arith
+
+status-ordinary : Ordinary Status
+status-ordinary e = let n : _≡_ {A = ℕ} 0 1 = cc in omega arith
+
+token-ordinary : Ordinary Token
+token-ordinary e = let n : _≡_ {A = ℕ} 0 1 = cc in omega arith
+
+version-ordinary : Ordinary Version
+version-ordinary e = let n : _≡_ {A = ℕ} 0 1 = cc in omega arith
+
+-- the parts
+end-refuses : (r : Rules) (x : Error) → Ordinary x → Refuses Ordinary (lineEndStep r x)
+end-refuses r x o begin p b = split (Refusal Ordinary) (eqb b 13) (λ _. tt) (λ _. split (Refusal Ordinary) (r .lf-alone && eqb b 10) (λ _. tt) (λ _. o))
+end-refuses r x o cr p b = split (Refusal Ordinary) (eqb b 10) (λ _. tt) (λ _. o)
+
+empties-refuse : (r : Rules) → Refuses Ordinary (emptyLinesStep r)
+empties-refuse r start p b = split (Refusal Ordinary) (r .empty-lines && eqb b 13) (λ _. tt) (λ _. split (Refusal Ordinary) (r .empty-lines && r .lf-alone && eqb b 10) (λ _. tt) (λ _. tt))
+empties-refuse r behind-cr p b = split (Refusal Ordinary) (eqb b 10) (λ _. tt) (λ _. line-ordinary)
+
+word-refuses : (class : ℕ → Bool) (stop : ℕ) (x : Error) → Ordinary x → Refuses Ordinary (wordStep class stop x)
+word-refuses class stop x o none p b = split (Refusal Ordinary) (class b) (λ _. tt) (λ _. o)
+word-refuses class stop x o (some a) p b = split (Refusal Ordinary) (class b) (λ _. tt) (λ _. split (Refusal Ordinary) (eqb b stop) (λ _. tt) (λ _. o))
+
+target-refuses : Refuses Ordinary targetStep
+target-refuses targets.none p b = split (Refusal Ordinary) (isTarget b) (λ _. tt) (λ _. token-ordinary)
+target-refuses (targets.some a u) p b = split (Refusal Ordinary) (isTarget b) (λ _. tt) (λ _. split (Refusal Ordinary) (eqb b 32) (λ _. split (Refusal Ordinary) (whole u) (λ _. tt) (λ _. token-ordinary)) (λ _. token-ordinary))
+
+version-refuses : Refuses Ordinary versionStep
+version-refuses [] p b = split (Refusal Ordinary) (eqb b 48) (λ _. tt) (λ _. split (Refusal Ordinary) (eqb b 49) (λ _. tt) (λ _. version-ordinary))
+version-refuses (c ∷ cs) p b = split (Refusal Ordinary) (eqb b c) (λ _. tt) (λ _. version-ordinary)
+
+space-refuses : (x : Error) → Ordinary x → Refuses Ordinary (spaceStep x)
+space-refuses x o s p b = split (Refusal Ordinary) (eqb b 32) (λ _. tt) (λ _. o)
+
+behind-refuses : (r : Rules) → Refuses Ordinary (behindCodeStep r)
+behind-refuses r s p b = split (Refusal Ordinary) (eqb b 32) (λ _. tt) (λ _. split (Refusal Ordinary) (r .code-ends-line && eqb b 13) (λ _. tt) (λ _. split (Refusal Ordinary) (r .code-ends-line && r .lf-alone && eqb b 10) (λ _. tt) (λ _. status-ordinary)))
+
+code-refuses : Refuses Ordinary codeStep
+code-refuses codes.none p b = split (Refusal Ordinary) (isDigit b) (λ _. tt) (λ _. status-ordinary)
+code-refuses (codes.one v) p b = split (Refusal Ordinary) (isDigit b) (λ _. tt) (λ _. status-ordinary)
+code-refuses (codes.two v) p b = split (Refusal Ordinary) (isDigit b) (λ _. tt) (λ _. status-ordinary)
+
+reason-refuses : Refuses Ordinary reasonStep
+reason-refuses reasons.none p b = split (Refusal Ordinary) (isValue b) (λ _. tt) (λ _. tt)
+reason-refuses (reasons.inside a o) p b = split (Refusal Ordinary) (isValue b) (λ _. tt) (λ _. tt)
+
+value-refuses : Refuses Ordinary valueStep
+value-refuses blanks p b = split (Refusal Ordinary) (isBlank b) (λ _. tt) (λ _. split (Refusal Ordinary) (isValue b) (λ _. tt) (λ _. tt))
+value-refuses (inside v e) p b = split (Refusal Ordinary) (isValue b) (λ _. tt) (λ _. tt)
+
+-- a verdict that always passes
+passes : {A B F : Type 0} (Q : F → Type 0) (f : A → B) (a : A) (x : F) → pass (f a) ≡ fail x → Q x
+passes Q f a x e = let n : _≡_ {A = ℕ} 0 1 = cc in absurd (omega arith)
+
+-- a line
+line-refuses : (r : Rules) → Refuses Ordinary (lineStep r)
+line-refuses r =
+    refuses-branch Ordinary (ends r) (judged (λ _. pass end) (λ e. e) (lineEndStep r NewLine)) begin (fieldStep r) (first none)
+    (refuses-judged Ordinary Ordinary (λ _. pass end) (λ e. e) (lineEndStep r NewLine) (passes Ordinary (λ _. end)) (λ e h. h) (end-refuses r NewLine line-ordinary))
+    (refuses-seq Ordinary (wordStep isToken 58 HeaderName) (λ n. first blanks) (λ n. seq valueStep (λ v. begin) (λ v. judged (λ _. pass (named n v)) (λ e. e) (lineEndStep r HeaderValue))) (word-refuses isToken 58 HeaderName name-ordinary) (λ n.
+    refuses-seq Ordinary valueStep (λ v. begin) (λ v. judged (λ _. pass (named n v)) (λ e. e) (lineEndStep r HeaderValue)) value-refuses (λ v.
+    refuses-judged Ordinary Ordinary (λ _. pass (named n v)) (λ e. e) (lineEndStep r HeaderValue) (passes Ordinary (λ _. named n v)) (λ e h. h) (end-refuses r HeaderValue value-ordinary))))
+
+-- a block: the slots are full
+abbrev Full : ℕ → Error × List Header → Type 0
+Full n x = x .0 ≡ TooManyHeaders → n ≤ length (x .1)
+
+taken-full : (n : ℕ) (hs : List Header) (k : Kind) (x : Error × List Header) → taken n hs k ≡ fail x → Full n x
+taken-full n hs end x e = let n : _≡_ {A = ℕ} 0 1 = cc in absurd (omega arith)
+taken-full n hs (header h) x e = by (ltb (length hs) n) refl e
+  where
+    by : (t : Bool) → ltb (length hs) n ≡ t → _≡_ {A = Verdict (Turn (List Header) (List Header)) (Error × List Header)} (cond t (pass (again (hs ++ (h ∷ [])))) (fail (TooManyHeaders, hs))) (fail x) → Full n x
+    by true t u = let n : _≡_ {A = ℕ} 0 1 = cc in absurd (omega arith)
+    by false t u = let v : _≡_ {A = Error × List Header} (TooManyHeaders, hs) x = cc in subst (Full n) v (λ _. ltb-false (length hs) n t)
+
+block-refuses : (r : Rules) (n : ℕ) → Refuses (Full n) (blockStep r n)
+block-refuses r n = refuses-loop (Full n) (λ _. fresh) (lapStep r n) (λ hs. refuses-judged Ordinary (Full n) (taken n hs) (λ e. (e, hs)) (lineStep r) (taken-full n hs) (λ e h u. absurd (h u)) (line-refuses r))
+
+-- a start line
+abbrev pub OrdinaryLine : {K : Type 0} → Error × K → Type 0
+OrdinaryLine x = Ordinary (x .0)
+
+refuses-part : {S A K : Type 0} (k : K) (f : A → K) (m : Step S A Error) → Refuses Ordinary m → Refuses OrdinaryLine (part k f m)
+refuses-part k f m M = refuses-judged Ordinary OrdinaryLine (λ a. pass (f a)) (λ e. (e, k)) m (passes OrdinaryLine f) (λ e h. h) M
+
+pub request-refuses : (r : Rules) → Refuses OrdinaryLine (requests.requestLineStep r)
+request-refuses r =
+    refuses-seq OrdinaryLine (part requests.unread (λ _. requests.unread) (emptyLinesStep r)) (λ _. first none) (requests.methodOn r) (refuses-part requests.unread (λ _. requests.unread) (emptyLinesStep r) (empties-refuse r)) (λ k.
+    refuses-seq OrdinaryLine (part k (requests.withMethod k) (wordStep isToken 32 Token)) (λ _. first targets.none) (requests.targetOn r) (refuses-part k (requests.withMethod k) (wordStep isToken 32 Token) (word-refuses isToken 32 Token token-ordinary)) (λ k.
+    refuses-seq OrdinaryLine (part k (requests.withTarget k) targetStep) (λ _. first name) (requests.versionOn r) (refuses-part k (requests.withTarget k) targetStep target-refuses) (λ k.
+    refuses-seq OrdinaryLine (part k (requests.withVersion k) versionStep) (λ _. begin) (requests.endStep r) (refuses-part k (requests.withVersion k) versionStep version-refuses) (λ k.
+    refuses-part k (λ _. k) (lineEndStep r NewLine) (end-refuses r NewLine line-ordinary)))))
+
+reason-end-refuses : (r : Rules) → Refuses Ordinary (statuses.reasonEndStep r)
+reason-end-refuses r =
+    refuses-seq Ordinary reasonStep (λ _. begin) (λ w. judged (λ _. pass w) (λ e. e) (lineEndStep r Status)) reason-refuses (λ w.
+    refuses-judged Ordinary Ordinary (λ _. pass w) (λ e. e) (lineEndStep r Status) (passes Ordinary (λ _. w)) (λ e h. h) (end-refuses r Status status-ordinary))
+
+pub status-refuses : (r : Rules) → Refuses OrdinaryLine (statuses.statusLineStep r)
+status-refuses r =
+    refuses-seq OrdinaryLine (part statuses.unread (λ _. statuses.unread) (emptyLinesStep r)) (λ _. first name) (statuses.versionOn r) (refuses-part statuses.unread (λ _. statuses.unread) (emptyLinesStep r) (empties-refuse r)) (λ k.
+    refuses-seq OrdinaryLine (part k (statuses.withVersion k) versionStep) (λ _. first tt) (statuses.spaceOn r) (refuses-part k (statuses.withVersion k) versionStep version-refuses) (λ k.
+    refuses-seq OrdinaryLine (part k (λ _. k) (spaceStep Version)) (λ _. first codes.none) (statuses.codeOn r) (refuses-part k (λ _. k) (spaceStep Version) (space-refuses Version version-ordinary)) (λ k.
+    refuses-seq OrdinaryLine (part k (statuses.withCode k) codeStep) (λ _. first tt) (statuses.behindOn r) (refuses-part k (statuses.withCode k) codeStep code-refuses) (λ k.
+    refuses-seq OrdinaryLine (part k (λ _. k) (behindCodeStep r)) (λ _. first reasons.none) (statuses.reasonOn r) (refuses-part k (λ _. k) (behindCodeStep r) (behind-refuses r)) (λ k.
+    refuses-part k (statuses.withReason k) (statuses.reasonEndStep r) (reason-end-refuses r))))))
+
+-- a head
+abbrev FullHead : {K : Type 0} → ℕ → Error × Known K → Type 0
+FullHead n x = x .0 ≡ TooManyHeaders → n ≤ length (x .1 .1)
+
+module _ (r : Rules) (n : ℕ) {K S : Type 0} (m : Step S K (Error × K)) (known : S → K) (s : S) (M : Refuses OrdinaryLine m) where
+  head-refuses : Refuses (FullHead n) (headStep r n m known s)
+  head-refuses =
+      refuses-seq (FullHead n) (judged pass (λ x. (x .0, (x .1, []))) m) (λ _. ([], fresh)) (blockOn r n m known s)
+      (refuses-judged OrdinaryLine (FullHead n) pass (λ x. (x .0, (x .1, []))) m (passes (FullHead n) (λ k. k)) (λ x h u. absurd (h u)) M)
+      (λ k. refuses-judged (Full n) (FullHead n) (λ hs. pass (k, hs)) (λ x. (x .0, (k, x .1))) (blockStep r n) (passes (FullHead n) (λ hs. (k, hs))) (λ x h. h) (block-refuses r n))
+
+  pub head-full : (z : List ℕ) (x : Known K) → heads.head r n m known s z ≡ bad (TooManyHeaders, x) → n ≤ length (x .1)
+  head-full z x e =
+      let u = answered-bad (headKnown r n m known s) _ e in
+      refused-is (FullHead n) (headStep r n m known s) head-refuses z (first s) 0 (TooManyHeaders, x) (u .0) (u .1) refl
+
+pub block-full : (r : Rules) (n : ℕ) (z : List ℕ) (hs : List Header) → block r n [] z 0 ≡ bad (TooManyHeaders, hs) → n ≤ length hs
+block-full r n z hs e =
+    let u = answered-bad (lapwise (λ hs _. hs)) _ e in
+    refused-is (Full n) (blockStep r n) (block-refuses r n) z ([], fresh) 0 (TooManyHeaders, hs) (u .0) (u .1) refl
