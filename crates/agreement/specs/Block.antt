@@ -1,16 +1,15 @@
 -- A header block is read exactly where lines stand whose headers fit the slots, up to the empty one.
 -- Assumes nothing.
-use Prim.Native.Nat.{ℕ, _+_, _≤_}
+use Prim.Native.Nat.{ℕ, _≤_}
 use native.Mathlib.Omega.{arith}
-use mathlib.Core.Path.{_≡_, ap}
-use mathlib.Core.List.{List, [], _∷_, _++_}
+use mathlib.Core.Path.{ap}
+use mathlib.Core.List.{List, [], _∷_}
 use lib.ListN.{length, length-append}
-use Rattle.reader.specs.Loop.{Turn, again, done}
+use Rattle.reader.specs.Loop.{Turn}
 use Rattle.reader.specs.Branch.{fresh}
 use Rattle.exact.specs.Exact.{Relation, Exact}
 use Rattle.exact.specs.Judged.{Passes, exact-judged}
-use Rattle.exact.specs.Seq.{Both}
-use Rattle.exact.specs.Branch.{Forks, one, other}
+use Rattle.exact.specs.Branch.{one, other}
 use Rattle.exact.specs.Loop.{Laps, exact-loop}
 use Rattle.rules.specs.Rules.{Rules}
 use Rattle.fields.specs.declared.Header.{Header}
@@ -26,7 +25,7 @@ Lapped r n hs = Passes (taken n hs) (Lined r)
 abbrev pub Blocked : Rules → ℕ → Relation (List Header)
 Blocked r n = Laps (Lapped r n) []
 
-ends-long : {r : Rules} {w : List ℕ} → line-end r w → 1 ≤ length w
+pub ends-long : {r : Rules} {w : List ℕ} → line-end r w → 1 ≤ length w
 ends-long crlf = omega arith
 ends-long (lf h) = omega arith
 

@@ -3,13 +3,12 @@
 use Prim.Native.Nat.{ℕ, _+_, _-_, _/_, _≤_}
 use native.Mathlib.Omega.{arith}
 use mathlib.Core.Path.{_≡_, refl, sym, ap, subst, _∙_}
-use mathlib.Core.List.{List, [], _∷_, _++_}
+use mathlib.Core.List.{List, [], _++_}
 use lib.ListN.{length, take}
 use Rattle.reader.specs.Seq.{first}
-use Rattle.reader.specs.Answer.{Answer, got, short, bad, answered, bad-stays, lapwise}
+use Rattle.reader.specs.Answer.{got, short, bad, answered, bad-stays, lapwise}
 use Rattle.reader.specs.Branch.{fresh}
 use Rattle.rules.specs.Rules.{default}
-use Rattle.grammar.specs.Fields.{Field}
 use Rattle.grammar.specs.Message.{header-block, request-line, request-head, status-line, response-head}
 use Rattle.parts.specs.declared.Error.{Error}
 use Rattle.parts.specs.declared.Error.the-variants.{TooManyHeaders}
@@ -39,7 +38,7 @@ use Rattle.agreement.specs.Starts.{Fixed}
 use Rattle.agreement.specs.Known.{RequestSays, StatusSays, RequestInside, StatusInside}
 use Rattle.agreement.specs.Request.{request-derived, request-read}
 use Rattle.agreement.specs.Response.{response-derived, response-read}
-use Rattle.agreement.specs.Exactly.{Found, Tells, Exactly, exactly, Lies, head-lies}
+use Rattle.agreement.specs.Exactly.{Found, Exactly, exactly, Lies, given-over, head-lies}
 use Rattle.agreement.specs.Promises.{HeadPromise, block-alone, says-nothing, lies-nowhere}
 use Rattle.agreement.specs.Kept.{kept}
 
@@ -85,11 +84,6 @@ bad-block (got y p) x e = let n : _≡_ {A = ℕ} 0 1 = cc in absurd (omega arit
 bad-block (short y) x e = let n : _≡_ {A = ℕ} 0 1 = cc in absurd (omega arith)
 bad-block (bad y) x e = let u : _≡_ {A = Error × Known (Unit {0})} (y .0, (tt, y .1)) x = cc in ap (λ v. bad (v .0, v .1 .1)) u
 
-pub given-block : (b : Blocks) → given (alone b) ≡ blocks.given b
-given-block (got x q) = refl
-given-block (short x) = refl
-given-block (bad x) = refl
-
 module _ (n : ℕ) where
   found-block : (z : List ℕ) (k : Unit {0}) (hs : List Header) (q : ℕ) → headersOf n z ≡ got (k, hs) q → Found block-alone says-nothing n z k hs q
   found-block z k hs q e =
@@ -117,13 +111,13 @@ module _ (n : ℕ) where
         let F = block-over (w ++ rest) default n (at-start w rest) h [] (omega arith) (omega (arith, f)) in
         let j : n - 0 ≡ n = omega arith in
         record { k = tt; hs = F .new; says = tt; holds = F .holds ∙ ap (λ y. take y fs) j; answers = ap alone (F .answers) };
-    few = λ z. subst (λ y. length y ≤ n) (sym (given-block (block default n [] z 0))) (few-fields z default n [] 0 (omega arith));
+    few = λ z. subst (λ y. length y ≤ n) (sym (given-over tt (block default n [] z 0))) (few-fields z default n [] 0 (omega arith));
     full = λ z x e. block-full default n z (x .1) (bad-block (block default n [] z 0) (TooManyHeaders, x) e);
     stays = λ s u x e. ap alone (bad-stays (lapwise (λ hs _. hs)) (blockStep default n) s u ([], fresh) 0 (bad-block (block default n [] s 0) x e));
   }
 
 headers-lie : (n : ℕ) → Lies lies-nowhere (headersOf n)
-headers-lie n = record { line = λ z. tt; fields = λ z. subst (Each (HeaderIn (length z))) (sym (given-block (block default n [] z 0))) (fields-in z default n [] 0 tt) }
+headers-lie n = record { line = λ z. tt; fields = λ z. subst (Each (HeaderIn (length z))) (sym (given-over tt (block default n [] z 0))) (fields-in z default n [] 0 tt) }
 
 module _ {s old : List ℕ} {end : Passed} {count : ℕ} {new : List ℕ} where
   pub request-promise : {line : RequestLine} → Told (request default (length old / 4) s) end line count old new → HeadPromise (request-head default) RequestSays RequestInside s old end line count new
@@ -139,7 +133,7 @@ tell-alone (Bad e) hs = refl
 
 pub alone-told : {b : Blocks} {r : Block} {old new : List ℕ} → blocks.Told b r old new → Told (alone b) (r .end) tt (r .count) old new
 alone-told {b} {r} {old} T =
-    let g : given (alone b) ≡ blocks.given b = given-block b in
+    let g : given (alone b) ≡ blocks.given b = given-over tt b in
     record {
       answer = ap (λ y. tell (r .end) (tt, y)) g ∙ tell-alone (r .end) (blocks.given b) ∙ ap alone (T .answer);
       count-is = T .count ∙ ap length (sym g);

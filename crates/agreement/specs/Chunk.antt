@@ -1,17 +1,17 @@
 -- A chunk size line is read exactly where the grammar has one, and its size is the number that the digits write.
 -- Assumes nothing.
-use Prim.Native.Nat.{ℕ, suc, _+_, _-_, _*_, _≤_, _<_}
+use Prim.Native.Nat.{ℕ, suc, _+_, _*_, _≤_, _<_}
 use native.Mathlib.Omega.{arith}
 use mathlib.Core.Path.{_≡_, refl, sym, ap, subst, _∙_}
-use mathlib.Core.Logic.{_⊎_, inl, inr}
 use mathlib.Core.List.{List, [], _∷_, _++_, append-assoc, append-nil}
-use mathlib.Core.Bool.{Bool, true, false, cond, false≢true}
+use mathlib.Core.Bool.{true, false, false≢true}
 use lib.Dec.{eqb, ltb}
 use lib.ListN.{length, length-append}
 use borrow.Author.Tests.{eqb-true, eqb-false, ne-eqb, ltb-true, lt-ltb}
 use Rattle.reader.specs.Machine.{Move, Run, gave, after, run}
-use Rattle.reader.specs.Answer.{Answer, got, short, bad, answer, answered, bad-stays}
+use Rattle.reader.specs.Answer.{got, short, bad, answer, answered, bad-stays}
 use Rattle.reader.specs.Chain.{nothing}
+use Rattle.reader.specs.Tests.{split}
 use Rattle.octets.specs.Grammar.{HEXDIG, blank, tchar, text}
 use Rattle.octets.specs.Grammar as bytes
 use Rattle.octets.specs.Class.{among, within, isDigit, isHexDigit, isBlank, isToken}
@@ -25,7 +25,6 @@ use Rattle.grammar.specs.Chunked as grammar
 use Rattle.chunks.specs.Chunk.{worth, worth-digit, worth-capital, worth-small-letter, Chunk, digits, blanks, extension, cr, behindStep, chunkStep, chunk, sizeOf}
 use Rattle.chunks.specs.declared.ChunkSize.{ChunkSize}
 use Rattle.chunks.specs.declared.ChunkSize.the-variants as sizes
-use Rattle.leaves.specs.Rows.{In, split}
 use Rattle.agreement.specs.Rows.{many-as, many-append}
 use Rattle.agreement.specs.Promises.{ChunkPromise}
 

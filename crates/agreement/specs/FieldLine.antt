@@ -3,23 +3,19 @@
 use Prim.Native.Nat.{ℕ, _+_, _≤_}
 use native.Mathlib.Omega.{arith}
 use mathlib.Core.Path.{_≡_, refl, sym, ap, subst, _∙_}
-use mathlib.Core.List.{List, [], _∷_, _++_, append-assoc}
+use mathlib.Core.List.{List, _∷_, _++_, append-assoc}
 use mathlib.Core.Bool.{Bool, true, false, _&&_, _||_, false≢true}
 use lib.Dec.{eqb}
 use lib.ListN.{length, length-append}
 use borrow.Author.Tests.{ne-eqb}
-use Rattle.reader.specs.Judged.{Verdict, pass}
-use Rattle.exact.specs.Judged.{Passes}
-use Rattle.exact.specs.Seq.{Both}
-use Rattle.exact.specs.Branch.{Forks, one, other}
+use Rattle.exact.specs.Branch.{one, other}
 use Rattle.octets.specs.Class.{among, within, isDigit, isToken, isBlank, isTarget, isValue}
 use Rattle.octets.proofs.Ties.{token-is-tchar}
 use Rattle.rules.specs.Rules.{Rules}
-use Rattle.grammar.specs.Rows.{Some, some}
+use Rattle.grammar.specs.Rows.{some}
 use Rattle.grammar.specs.Fields.{Field}
 use Rattle.grammar.specs.Message.{line-end, crlf, lf, field-line, colon}
 use Rattle.grammar.specs.Message as grammar
-use Rattle.parts.specs.declared.Error.{Error}
 use Rattle.parts.specs.declared.Piece.{Piece}
 use Rattle.parts.specs.Answers.{piece}
 use Rattle.fields.specs.declared.Header.{Header}

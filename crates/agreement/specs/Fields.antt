@@ -8,27 +8,26 @@ use mathlib.Core.Bool.{Bool, true, false, cond}
 use lib.Dec.{ltb}
 use lib.ListN.{length, take, drop, length-append, length-drop}
 use borrow.Author.Tests.{ltb-true, ltb-false, lt-ltb, le-ltb}
-use Rattle.reader.specs.Machine.{run, gave}
+use Rattle.reader.specs.Machine.{run}
 use Rattle.reader.specs.Judged.{Verdict, pass, fail}
 use Rattle.reader.specs.Loop.{Turn, again, done}
 use Rattle.reader.specs.Answer.{Answer, got, short, bad, answer, answered, verdict, retold, rounds}
 use Rattle.reader.specs.Chain.{nothing}
 use Rattle.reader.specs.Branch.{fresh}
-use Rattle.exact.specs.Judged.{Passes}
+use Rattle.reader.specs.Tests.{split}
 use Rattle.exact.specs.Loop.{Laps, last, next}
 use Rattle.rules.specs.Rules.{Rules}
 use Rattle.grammar.specs.Fields.{Field}
-use Rattle.grammar.specs.Message.{line-end, header-block}
+use Rattle.grammar.specs.Message.{header-block}
 use Rattle.grammar.specs.Message as grammar
 use Rattle.parts.specs.declared.Error.{Error}
 use Rattle.parts.specs.declared.Error.the-variants.{TooManyHeaders}
 use Rattle.fields.specs.declared.Header.{Header}
 use Rattle.fields.specs.Line.{Kind, header, end, lineStep, line}
 use Rattle.blocks.specs.Block.{taken, block, block-line, given}
-use Rattle.leaves.specs.Rows.{split}
 use Rattle.agreement.specs.Line.{Lined, exact-line}
 use Rattle.agreement.specs.Block.{Lapped, line-long}
-use Rattle.agreement.specs.Places.{At, at-as, at-first, at-second, from-at}
+use Rattle.agreement.specs.Places.{At, at-first, at-second, from-at}
 use Rattle.agreement.specs.FieldLine.{fieldOf, LineIs, ended, field, line-derived, field-read, end-read, HeaderIn, line-in}
 
 -- the fields that headers hold

@@ -2,45 +2,44 @@
 -- Assumes nothing.
 use Prim.Native.Nat.{ℕ, _+_, _≤_}
 use native.Mathlib.Omega.{arith}
-use mathlib.Core.Path.{_≡_, refl, sym, ap, subst, _∙_}
+use mathlib.Core.Path.{_≡_, refl, subst}
 use mathlib.Core.List.{List, [], _∷_, _++_}
 use mathlib.Core.Bool.{Bool, true, false, cond, _&&_}
 use lib.Dec.{eqb, ltb}
 use lib.ListN.{length}
 use borrow.Author.Tests.{ltb-false}
-use Rattle.reader.specs.Machine.{Move, keep, give, before, refuse, Run, more, gave, refused, Step, after, run}
+use Rattle.reader.specs.Machine.{Move, keep, give, before, refuse, refused, Step, after, run}
 use Rattle.reader.specs.Judged.{Verdict, pass, fail, given, left, moved, judged}
-use Rattle.reader.specs.Seq.{Then, first, second, onward, cross, seq}
+use Rattle.reader.specs.Seq.{first, second, onward, cross, seq}
 use Rattle.reader.specs.Loop.{Turn, again, done, turned, loop}
-use Rattle.reader.specs.Branch.{Branch, fresh, one, other, lifted, branch}
+use Rattle.reader.specs.Branch.{fresh, one, other, lifted, branch}
 use Rattle.reader.specs.Answer.{bad, answered-bad, lapwise}
 use Rattle.reader.specs.Chain.{part}
+use Rattle.reader.specs.Tests.{split}
 use Rattle.octets.specs.Class.{isDigit, isBlank, isToken, isTarget, isValue}
 use Rattle.utf8.specs.Reader.{whole}
 use Rattle.rules.specs.Rules.{Rules}
 use Rattle.parts.specs.declared.Error.{Error}
 use Rattle.parts.specs.declared.Error.the-variants.{HeaderName, HeaderValue, NewLine, Status, Token, TooManyHeaders, Version}
-use Rattle.parts.specs.declared.Piece.{Piece}
-use Rattle.parts.specs.LineEnd.{LineEnd, begin, cr, lineEndStep}
-use Rattle.parts.specs.EmptyLines.{EmptyLines, start, cr as behind-cr, emptyLinesStep}
-use Rattle.words.specs.Word.{Word, none, some, wordStep}
-use Rattle.words.specs.Target.{Target, targetStep}
+use Rattle.parts.specs.LineEnd.{begin, cr, lineEndStep}
+use Rattle.parts.specs.EmptyLines.{start, cr as behind-cr, emptyLinesStep}
+use Rattle.words.specs.Word.{none, some, wordStep}
+use Rattle.words.specs.Target.{targetStep}
 use Rattle.words.specs.Target as targets
 use Rattle.versions.specs.Version.{name, versionStep}
 use Rattle.spaces.specs.Space.{spaceStep, behindCodeStep}
-use Rattle.status.specs.Code.{Code, codeStep}
+use Rattle.status.specs.Code.{codeStep}
 use Rattle.status.specs.Code as codes
-use Rattle.status.specs.Reason.{Reason, reasonStep}
+use Rattle.status.specs.Reason.{reasonStep}
 use Rattle.status.specs.Reason as reasons
-use Rattle.values.specs.Value.{Value, blanks, inside, valueStep}
+use Rattle.values.specs.Value.{blanks, inside, valueStep}
 use Rattle.fields.specs.declared.Header.{Header}
-use Rattle.fields.specs.Line.{Kind, header, end, named, fieldStep, ends, LineState, lineStep}
+use Rattle.fields.specs.Line.{Kind, header, end, named, fieldStep, ends, lineStep}
 use Rattle.blocks.specs.Block.{taken, lapStep, blockStep, block}
 use Rattle.requestline.specs.RequestLine as requests
 use Rattle.statusline.specs.StatusLine as statuses
 use Rattle.heads.specs.Head.{Known, blockOn, headStep, headKnown}
 use Rattle.heads.specs.Head as heads
-use Rattle.leaves.specs.Rows.{split}
 
 -- what is refused satisfies P
 abbrev pub Refusal : {S A F : Type 0} → (F → Type 0) → Move S A F → Type 0

@@ -1,10 +1,10 @@
 -- A head is read exactly where its start line stands and a header block behind it.
 -- Assumes nothing.
 use Prim.Native.Nat.{ℕ}
-use mathlib.Core.List.{List, []}
+use mathlib.Core.List.{[]}
 use Rattle.reader.specs.Machine.{Step}
 use Rattle.reader.specs.Judged.{pass, judged}
-use Rattle.reader.specs.Seq.{first, seq}
+use Rattle.reader.specs.Seq.{first}
 use Rattle.reader.specs.Branch.{fresh}
 use Rattle.exact.specs.Exact.{Relation, Exact}
 use Rattle.exact.specs.Judged.{Passes, exact-judged}

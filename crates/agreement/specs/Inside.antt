@@ -3,7 +3,7 @@
 use Prim.Native.Nat.{ℕ, _+_, _-_, _≤_}
 use native.Mathlib.Omega.{arith}
 use mathlib.Core.Path.{_≡_, refl, sym, ap, subst, _∙_}
-use mathlib.Core.List.{List, [], _∷_, _++_}
+use mathlib.Core.List.{List, [], _∷_}
 use lib.ListN.{length, drop, length-append, length-drop}
 use Rattle.reader.specs.Machine.{Step}
 use Rattle.reader.specs.Answer.{Answer, got, short, bad, answered, and}
@@ -16,15 +16,12 @@ use Rattle.parts.specs.declared.Error.the-variants.{NewLine, Status, Token, Ver
 use Rattle.parts.specs.declared.Piece.{Piece}
 use Rattle.parts.specs.LineEnd.{lineEnd}
 use Rattle.parts.specs.EmptyLines.{emptyLines}
-use Rattle.words.specs.Word.{wordStep, word}
-use Rattle.words.specs.Word as words
-use Rattle.words.specs.Target.{targetStep, target}
-use Rattle.words.specs.Target as targets
+use Rattle.words.specs.Word.{word}
+use Rattle.words.specs.Target.{target}
 use Rattle.versions.specs.Version.{version}
 use Rattle.spaces.specs.Space.{space, behindCode}
 use Rattle.status.specs.Code.{code}
-use Rattle.status.specs.Reason.{reasonStep, reason}
-use Rattle.status.specs.Reason as reasons
+use Rattle.status.specs.Reason.{reason}
 use Rattle.requestline.specs.declared.RequestLine.{RequestLine}
 use Rattle.requestline.specs.RequestLine as requests
 use Rattle.statusline.specs.declared.StatusLine.{StatusLine}

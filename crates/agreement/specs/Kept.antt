@@ -1,6 +1,6 @@
 -- The promises are kept wherever a call tells what an exact reader answers.
 -- Assumes nothing.
-use Prim.Native.Nat.{ℕ, suc, _+_, _*_, _/_, _≤_, _<_}
+use Prim.Native.Nat.{ℕ, _+_, _*_, _/_, _≤_, _<_}
 use native.Mathlib.Omega.{arith}
 use mathlib.Core.Path.{_≡_, refl, sym, ap, subst, _∙_}
 use mathlib.Core.List.{List, [], _∷_, _++_}
@@ -9,7 +9,7 @@ use lib.Dec.{ltb}
 use lib.ListN.{length, take, drop, length-append, length-drop}
 use lib.Seq.{drop-at}
 use borrow.Author.Tests.{ltb-true, ltb-false}
-use Rattle.reader.specs.Answer.{Answer, got, short, bad}
+use Rattle.reader.specs.Answer.{got, bad}
 use Rattle.grammar.specs.Fields.{Field}
 use Rattle.parts.specs.declared.Error.{Error}
 use Rattle.parts.specs.declared.Error.the-variants.{TooManyHeaders}
@@ -23,7 +23,7 @@ use Rattle.agreement.specs.FieldLine.{fieldOf, HeaderIn}
 use Rattle.agreement.specs.Fields.{fieldsOf, Each}
 use Rattle.agreement.specs.Known.{fieldsIn, SlotsInside}
 use Rattle.agreement.specs.Inside.{knownOf}
-use Rattle.agreement.specs.Exactly.{Found, Tells, Exactly, Lies}
+use Rattle.agreement.specs.Exactly.{Exactly, Lies}
 use Rattle.agreement.specs.Promises.{HeadAt, HeadPromise}
 
 -- the slots hold the headers' fields
@@ -66,6 +66,15 @@ module _ {K : Type 0} where
   same-bad (At p) k k′ hs hs′ q e = let n : _≡_ {A = ℕ} 0 1 = cc in absurd (omega arith)
   same-bad More k k′ hs hs′ q e = let n : _≡_ {A = ℕ} 0 1 = cc in absurd (omega arith)
   same-bad (Bad x) k k′ hs hs′ q e = let u : _≡_ {A = Error × Known K} (x, (k, hs)) (q, (k′, hs′)) = cc in (ap (λ y. Bad (y .0)) u, ap (λ y. y .1 .0) u, ap (λ y. y .1 .1) u)
+
+-- what a call tells of the start line is what the reader knows of it
+pub told-line : {K : Type 0} {a : Heads K} {end : Passed} {line : K} {count : ℕ} {old new : List ℕ} → Told a end line count old new → knownOf a .0 ≡ line
+told-line {K} {a} {end} {line} T = ap (λ (y : Heads K). knownOf y .0) (sym (T .answer)) ∙ by end
+  where
+    by : (end : Passed) → knownOf {K = Known K} {E = Error} (tell end (line, given a)) .0 ≡ line
+    by (At q) = refl
+    by More = refl
+    by (Bad x) = refl
 
 at-more : {q : ℕ} → At q ≡ More → ⊥
 at-more e = let n : _≡_ {A = ℕ} 0 1 = cc in omega arith
@@ -135,15 +144,6 @@ module _ {L K : Type 0} {Head : List ℕ → L → List Field → Type 0} {Says 
       by false f = at-more (sym (accept w t l fs i h (ltb-false (length old / 4) (length fs) f) .0) ∙ e)
       by true f = bad-more (sym (overflow w t l fs i h (ltb-true (length old / 4) (length fs) f) .0) ∙ e)
 
-  -- what the call tells of the start line is what the reader knows of it
-  line-told : knownOf (read s) .0 ≡ line
-  line-told = ap (λ (y : Heads K). knownOf y .0) (sym (T .answer)) ∙ by end
-    where
-      by : (end : Passed) → knownOf {K = Known K} {E = Error} (tell end (line, given (read s))) .0 ≡ line
-      by (At q) = refl
-      by More = refl
-      by (Bad x) = refl
-
   pub kept : HeadPromise Head Says In s old end line count new
   kept = record {
     complete = completes;
@@ -153,7 +153,7 @@ module _ {L K : Type 0} {Head : List ℕ → L → List Field → Type 0} {Says 
     error-at-all = errs-at-all;
     incomplete = waits;
     full = λ e. omega (arith, T .count-is, X .few s, X .full s (line, given (read s)) (read-bad TooManyHeaders e));
-    inside = (subst (In (length s)) line-told (Y .line s), subst (λ y. SlotsInside (length s) y new) (sym (T .count-is)) (subst (SlotsInside (length s) (length (given (read s)))) (sym (T .slots)) (slots-in (length s) (given (read s)) old (Y .fields s))));
+    inside = (subst (In (length s)) (told-line T) (Y .line s), subst (λ y. SlotsInside (length s) y new) (sym (T .count-is)) (subst (SlotsInside (length s) (length (given (read s)))) (sym (T .slots)) (slots-in (length s) (given (read s)) old (Y .fields s))));
     within = (subst (λ y. y ≤ length old / 4) (sym (T .count-is)) (X .few s), ap length (T .slots) ∙ filled-length (given (read s)) old (X .few s));
     untouched = ap (λ y. drop (y * 4) new) (T .count-is) ∙ ap (drop (length (given (read s)) * 4)) (T .slots) ∙ kept-behind (given (read s)) old ∙ sym (ap (λ y. drop (y * 4) old) (T .count-is));
   }

@@ -1,10 +1,8 @@
 -- A line of a header block is read exactly where a field line or an empty line stands.
 -- Assumes nothing.
-use Prim.Native.Nat.{ℕ}
 use mathlib.Core.Path.{_≡_, refl}
-use mathlib.Core.List.{List, [], _∷_, _++_}
 use mathlib.Core.Bool.{false}
-use Rattle.reader.specs.Judged.{Verdict, pass}
+use Rattle.reader.specs.Judged.{pass}
 use Rattle.reader.specs.Seq.{first, seq}
 use Rattle.reader.specs.Judged.{judged}
 use Rattle.reader.specs.Branch.{fresh}
@@ -15,12 +13,11 @@ use Rattle.exact.specs.Branch.{Forks, exact-branch}
 use Rattle.octets.specs.Class.{among, within, isDigit, isToken}
 use Rattle.parts.specs.declared.Error.{Error}
 use Rattle.parts.specs.declared.Error.the-variants.{HeaderName, HeaderValue, NewLine}
-use Rattle.parts.specs.declared.Piece.{Piece}
 use Rattle.rules.specs.Rules.{Rules}
 use Rattle.parts.specs.LineEnd.{begin, lineEndStep}
 use Rattle.words.specs.Word.{none, wordStep}
 use Rattle.values.specs.Value.{blanks, valueStep}
-use Rattle.fields.specs.Line.{Kind, header, end, named, fieldStep, ends, lineStep}
+use Rattle.fields.specs.Line.{Kind, end, named, fieldStep, ends, lineStep}
 use Rattle.leaves.specs.LineEnd.{EndsAt, exact-line-end}
 use Rattle.leaves.specs.Word.{Worded, exact-word}
 use Rattle.leaves.specs.Value.{Valued, exact-value}

@@ -2,9 +2,8 @@
 -- Assumes nothing.
 use Prim.Native.Nat.{ℕ, _+_}
 use mathlib.Core.Path.{_≡_, refl, sym, ap, subst, _∙_}
-use mathlib.Core.List.{List, [], _∷_, _++_, append-assoc}
-use mathlib.Core.Bool.{Bool, true, false, _&&_}
-use lib.Dec.{eqb}
+use mathlib.Core.List.{List, _∷_, _++_, append-assoc}
+use mathlib.Core.Bool.{true, _&&_}
 use lib.ListN.{length}
 use Rattle.octets.specs.Class.{isToken}
 use Rattle.octets.proofs.Ties.{token-is-tchar}
@@ -14,14 +13,10 @@ use Rattle.grammar.specs.Message.{space, empty-lines, line-end, request-line}
 use Rattle.grammar.specs.Message as grammar
 use Rattle.parts.specs.declared.Piece.{Piece}
 use Rattle.parts.specs.Answers.{piece}
-use Rattle.versions.specs.Version.{name}
 use Rattle.requestline.specs.declared.RequestLine.{RequestLine}
 use Rattle.requestline.specs.RequestLine.{unread, withMethod, withTarget, withVersion}
-use Rattle.leaves.specs.EmptyLines.{EmptiesAt, Stops}
-use Rattle.leaves.specs.Word.{Worded}
-use Rattle.leaves.specs.Target.{Targeted}
-use Rattle.leaves.specs.Version.{DigitAt}
-use Rattle.agreement.specs.StartLine.{RequestLined, MethodOn, TargetOn, VersionOn, EndOn}
+use Rattle.leaves.specs.EmptyLines.{Stops}
+use Rattle.agreement.specs.StartLine.{RequestLined}
 use Rattle.agreement.specs.Places.{held, At, at-as, at-first, at-second, held-at}
 use Rattle.agreement.specs.Rows.{tokens, in-token}
 use Rattle.agreement.specs.FieldLine.{token-not, no-cr, no-lf, neither}

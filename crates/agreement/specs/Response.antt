@@ -2,27 +2,23 @@
 -- Assumes nothing.
 use Prim.Native.Nat.{ℕ, _+_}
 use mathlib.Core.Path.{_≡_, refl, sym, ap, subst, _∙_}
-use mathlib.Core.List.{List, [], _∷_, _++_, append-assoc}
+use mathlib.Core.List.{List, _++_, append-assoc}
 use mathlib.Core.Bool.{_&&_}
-use lib.ListN.{length}
 use Rattle.rules.specs.Rules.{Rules}
 use Rattle.grammar.specs.Message.{space, empty-lines, line-end, Version, HTTP-version, one-zero, one-one, status-line}
 use Rattle.grammar.specs.Message as grammar
-use Rattle.parts.specs.declared.Piece.{Piece}
 use Rattle.statusline.specs.declared.StatusLine.{StatusLine}
 use Rattle.statusline.specs.StatusLine.{unread, withVersion, withCode, withReason}
 use Rattle.leaves.specs.EmptyLines.{Stops}
 use Rattle.leaves.specs.Status.{Spaced}
 use Rattle.leaves.specs.Status as statuses
-use Rattle.leaves.specs.BehindCode.{Behind}
-use Rattle.leaves.specs.Reason.{Reasoned}
-use Rattle.agreement.specs.StartLine.{StatusLined, ReasonEnds}
+use Rattle.agreement.specs.StartLine.{StatusLined}
 use Rattle.agreement.specs.Places.{held, At, at-as, at-first, at-second}
 use Rattle.agreement.specs.FieldLine.{neither}
 use Rattle.agreement.specs.Starts.{Fixed, clash, version-derived, version-read, code-derived, code-read}
 use Rattle.agreement.specs.Steps.{passed-is, apart, together, Started, LineRead}
 use Rattle.agreement.specs.Known.{StatusSays}
-use Rattle.agreement.specs.Tail.{Tail, Parts, parts-line, line-parts, tail-derived, tail-read}
+use Rattle.agreement.specs.Tail.{parts-line, line-parts, tail-derived, tail-read}
 
 -- empty lines, version, code, what is behind it, line end, in two ways of grouping
 regroup : (e v s c w d : List ℕ) → e ++ (v ++ (s ++ (c ++ (w ++ d)))) ≡ e ++ (v ++ s ++ c ++ w) ++ d

@@ -1,7 +1,7 @@
 -- The classes that the machines ask are the grammar's rules for a byte, and so are rows of them.
 -- Assumes nothing.
 use Prim.Native.Nat.{ℕ}
-use mathlib.Core.List.{List, [], _∷_, _++_}
+use mathlib.Core.List.{List, _++_}
 use Rattle.octets.specs.Grammar.{field-vchar, tchar, blank, text}
 use Rattle.octets.specs.Class.{isBlank, isToken, isTarget, isValue}
 use Rattle.octets.proofs.Ties.{blank-is-blank, token-is-tchar, target-is-field-vchar, value-is-text}

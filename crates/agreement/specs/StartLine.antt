@@ -1,12 +1,10 @@
 -- Request lines and status lines are read exactly where their parts stand in a row.
 -- Assumes nothing.
-use Prim.Native.Nat.{ℕ}
 use mathlib.Core.Path.{_≡_, refl}
-use mathlib.Core.List.{List}
 use mathlib.Core.Bool.{false}
 use Rattle.reader.specs.Machine.{Step}
 use Rattle.reader.specs.Judged.{pass, judged}
-use Rattle.reader.specs.Seq.{first, seq}
+use Rattle.reader.specs.Seq.{first}
 use Rattle.reader.specs.Chain.{part}
 use Rattle.exact.specs.Exact.{Relation, Exact}
 use Rattle.exact.specs.Judged.{Passes, exact-judged}

@@ -1,15 +1,14 @@
 -- The parts of a start line are read exactly where the grammar has them: target, version, code, reason.
 -- Assumes nothing.
-use Prim.Native.Nat.{ℕ, _+_, _-_, _*_, _≤_}
+use Prim.Native.Nat.{ℕ, _+_, _-_, _*_}
 use native.Mathlib.Omega.{arith}
 use mathlib.Core.Path.{_≡_, refl, sym, ap, subst, _∙_}
 use mathlib.Core.Logic.{_⊎_, inl, inr}
 use mathlib.Core.List.{List, [], _∷_, _++_}
-use mathlib.Core.Bool.{Bool, true, false, _||_, false≢true}
-use lib.ListN.{length}
+use mathlib.Core.Bool.{Bool, true, false, false≢true}
 use Rattle.octets.specs.Grammar.{Range, DIGIT, VCHAR, obs-text, field-vchar, blank, text}
 use Rattle.octets.specs.Grammar as bytes
-use Rattle.octets.specs.Class.{within, isDigit, isBlank, isTarget, isValue, isAscii}
+use Rattle.octets.specs.Class.{isTarget, isValue, isAscii}
 use Rattle.octets.proofs.Ties.{in-range, range-in, above-range, digit-is-DIGIT, value-is-text}
 use Rattle.utf8.specs.Grammar.{UTF8-octets}
 use Rattle.utf8.specs.Grammar as characters

@@ -1,12 +1,11 @@
 -- One part behind another, where each adds to what is known: taken apart, and put together; and what a row of parts reads.
 -- Assumes nothing.
 use Prim.Native.Nat.{ℕ, _+_}
-use mathlib.Core.Path.{_≡_, refl, sym, subst}
+use mathlib.Core.Path.{_≡_, refl, subst}
 use mathlib.Core.List.{List, _++_}
 use lib.ListN.{length}
 use Rattle.reader.specs.Judged.{Verdict, pass}
 use Rattle.exact.specs.Exact.{Relation}
-use Rattle.exact.specs.Judged.{Passes}
 use Rattle.exact.specs.Seq.{Both}
 use Rattle.rules.specs.Rules.{Rules}
 use Rattle.grammar.specs.Message as grammar

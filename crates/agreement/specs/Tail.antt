@@ -4,11 +4,11 @@ use Prim.Native.Nat.{ℕ, _+_}
 use native.Mathlib.Omega.{arith}
 use mathlib.Core.Path.{_≡_, refl, sym, ap, subst, _∙_}
 use mathlib.Core.List.{List, [], _∷_, _++_, append-assoc, append-nil}
-use mathlib.Core.Bool.{Bool, true, false, false≢true}
+use mathlib.Core.Bool.{true, false}
 use lib.ListN.{length}
 use Rattle.octets.specs.Class.{among, within, isBlank, isTarget, isValue}
 use Rattle.rules.specs.Rules.{Rules}
-use Rattle.grammar.specs.Rows.{Many, none, more}
+use Rattle.grammar.specs.Rows.{none, more}
 use Rattle.grammar.specs.Message.{space, line-end, crlf, lf, Version, HTTP-version, status-code, reason-phrase, status-line}
 use Rattle.grammar.specs.Message as grammar
 use Rattle.parts.specs.declared.Piece.{Piece}

@@ -1,23 +1,21 @@
 -- A value with the blanks around it is read exactly where the grammar has OWS field-value OWS, and its piece holds the value.
 -- Assumes nothing.
-use Prim.Native.Nat.{ℕ, suc, _+_, _≤_}
+use Prim.Native.Nat.{ℕ, _+_, _≤_}
 use native.Mathlib.Omega.{arith}
 use mathlib.Core.Path.{_≡_, refl, sym, ap, subst, _∙_}
 use mathlib.Core.Logic.{_⊎_, inl, inr}
 use mathlib.Core.List.{List, [], _∷_, _++_, append-assoc, append-nil}
 use mathlib.Core.Bool.{Bool, true, false, _||_, false≢true}
-use lib.Dec.{eqb}
-use lib.ListN.{length, length-append}
+use lib.ListN.{length}
 use borrow.Author.Tests.{ne-eqb}
-use Rattle.octets.specs.Grammar.{Range, field-vchar, visible, obsolete, blank, text}
+use Rattle.octets.specs.Grammar.{field-vchar, visible, obsolete, text}
 use Rattle.octets.specs.Class.{among, isBlank, isTarget, isValue}
-use Rattle.octets.proofs.Ties.{blank-is-blank, target-is-field-vchar, value-is-text}
-use Rattle.grammar.specs.Rows.{Many, none, more, Some, some}
+use Rattle.octets.proofs.Ties.{target-is-field-vchar, value-is-text}
+use Rattle.grammar.specs.Rows.{none, more, some}
 use Rattle.grammar.specs.Fields.{OWS, field-content, field-value}
 use Rattle.grammar.specs.Fields as fields
 use Rattle.parts.specs.declared.Piece.{Piece}
 use Rattle.parts.specs.Answers.{piece}
-use Rattle.leaves.specs.Rows.{In}
 use Rattle.leaves.specs.Value.{Solid, Core, one, two, Stop, Valued, empty, full}
 use Rattle.agreement.specs.Places.{held, At, at-first, at-second, held-at, held-none}
 use Rattle.agreement.specs.Rows.{many-append, blanks, in-blank, texts, in-value}

@@ -14,7 +14,7 @@ use Rattle.reader.specs.Seq.{Then, cross}
 use Rattle.reader.specs.Loop.{Turn, again, done, loop, Fresh}
 use Rattle.reader.specs.Answer.{Answer, got, short, bad, answer, retold, answer-judged, rounds, lapwise, answer-loop}
 use Rattle.reader.specs.Chain.{nothing}
-use Rattle.reader.specs.Branch.{Branch, fresh, one, other, lifted}
+use Rattle.reader.specs.Branch.{fresh, one, other, lifted}
 use Rattle.octets.specs.Class.{isToken}
 use Rattle.parts.specs.declared.Error.{Error}
 use Rattle.parts.specs.declared.Error.the-variants.{HeaderName, NewLine, TooManyHeaders}
@@ -22,13 +22,13 @@ use Rattle.parts.specs.declared.Piece.{Piece}
 use Rattle.parts.specs.declared.Passed.{Passed}
 use Rattle.parts.specs.declared.Passed.the-variants as passes
 use Rattle.rules.specs.Rules.{Rules, default}
-use Rattle.parts.specs.LineEnd.{LineEnd, begin, cr, lineEndStep}
-use Rattle.words.specs.Word.{Word, none, some}
+use Rattle.parts.specs.LineEnd.{LineEnd, cr}
+use Rattle.words.specs.Word.{some}
 use Rattle.fields.specs.declared.Header.{Header}
 use Rattle.fields.specs.declared.Line.{Line}
 use Rattle.fields.specs.declared.Line.the-variants as lines
 use Rattle.blocks.specs.declared.Block.{Block}
-use Rattle.values.specs.Value.{Value, blanks}
+use Rattle.values.specs.Value.{Value}
 use Rattle.fields.specs.Line.{Kind, header, end, LineState, lineStep, line, lineOf}
 use Rattle.blocks.specs.Slots.{numbers, filled, filled-none, filled-more}
 

@@ -1,6 +1,6 @@
 -- A chunk size line: at most sixteen hexadecimal digits, blanks, perhaps a semicolon and an extension of any bytes, then CR LF (RFC 9112, 7.1).
 -- Assumes nothing.
-use Prim.Native.Nat.{ℕ, zero, suc, _+_, _-_, _*_, _^_, _≤_, _<_}
+use Prim.Native.Nat.{ℕ, _+_, _-_, _*_, _^_, _≤_, _<_}
 use native.Mathlib.Omega.{arith}
 use native.Mathlib.Numerals.{add-one}
 use native.Mathlib.Nat.{pow-suc, pow-le-pow-right}

@@ -2,12 +2,12 @@
 -- Assumes nothing.
 use Prim.Native.Nat.{ℕ, _+_}
 use native.Mathlib.Omega.{arith}
-use mathlib.Core.Path.{_≡_, refl, sym, ap, _∙_}
+use mathlib.Core.Path.{_≡_, refl, _∙_}
 use mathlib.Core.List.{List, [], _∷_, _++_}
 use lib.ListN.{length}
-use Rattle.reader.specs.Machine.{Move, keep, give, before, refuse, Run, gave, Step, after, run}
+use Rattle.reader.specs.Machine.{Move, keep, give, before, refuse, gave, Step, after, run}
 use Rattle.reader.specs.Judged.{Verdict, pass, fail, given, left, moved, judged}
-use Rattle.exact.specs.Exact.{Relation, Part, Exact}
+use Rattle.exact.specs.Exact.{Relation, Exact}
 
 pub record Passes {A B F : Type 0} (f : A → Verdict B F) (G : Relation A) (p : ℕ) (w : List ℕ) (b : B) (rest : List ℕ) : Type 0 where
   pub a : A

@@ -7,7 +7,7 @@ use mathlib.Core.List.{List, _++_, append-assoc}
 use lib.ListN.{length, drop, replicate, length-replicate, length-append}
 use lib.Seq.{drop-at}
 use Rattle.reader.specs.Machine.{Run, more, gave, refused, Step, run}
-use Rattle.reader.specs.Seq.{Then, first, seq, carried, bind, run-seq}
+use Rattle.reader.specs.Seq.{first, seq, carried, bind, run-seq}
 use Rattle.exact.specs.Exact.{Relation, Part, Exact}
 
 -- the bytes of the second are part of what follows the first

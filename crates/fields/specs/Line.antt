@@ -1,15 +1,15 @@
 -- One line of a header block: a field line (RFC 9112, 5), or the empty line that ends the head.
 -- Assumes nothing.
-use Prim.Native.Nat.{ℕ, _+_, _≤_, _<_}
-use mathlib.Core.Path.{_≡_, refl, sym, _∙_}
+use Prim.Native.Nat.{ℕ, _≤_, _<_}
+use mathlib.Core.Path.{_≡_, sym, _∙_}
 use mathlib.Core.List.{List}
 use mathlib.Core.Bool.{Bool, true, false, _&&_, _||_}
 use lib.Dec.{eqb}
 use lib.ListN.{length, getD}
-use Rattle.reader.specs.Machine.{Step, runAt}
+use Rattle.reader.specs.Machine.{Step}
 use Rattle.reader.specs.Judged.{pass, judged}
 use Rattle.reader.specs.Seq.{Then, first, seq}
-use Rattle.reader.specs.Answer.{Answer, got, short, bad, answer, and, and-same, answer-seq}
+use Rattle.reader.specs.Answer.{Answer, got, short, bad, and, and-same, answer-seq}
 use Rattle.reader.specs.Chain.{nothing, reads, ended, answer-ended}
 use Rattle.reader.specs.Branch.{Branch, fresh, branch, branch-one, branch-other, branch-none}
 use Rattle.octets.specs.Class.{isToken}

@@ -1,7 +1,6 @@
 -- What the calls answer: the reader of a request and of a response, for every input and every number of slots.
 -- Assumes nothing.
 use Prim.Native.Nat.{ℕ}
-use mathlib.Core.Path.{_≡_}
 use mathlib.Core.List.{List, []}
 use Rattle.reader.specs.Seq.{first}
 use Rattle.parts.specs.declared.Passed.{Passed}

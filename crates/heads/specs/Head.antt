@@ -4,10 +4,10 @@ use Prim.Native.Nat.{ℕ}
 use mathlib.Core.Path.{_≡_, refl, sym, ap, _∙_}
 use mathlib.Core.List.{List, []}
 use lib.ListN.{length, drop}
-use Rattle.reader.specs.Machine.{Step, run, runAt}
+use Rattle.reader.specs.Machine.{Step, runAt}
 use Rattle.reader.specs.Judged.{pass, judged}
 use Rattle.reader.specs.Seq.{Then, first, seq}
-use Rattle.reader.specs.Answer.{Answer, got, short, bad, answer, retold, answer-judged, and, and-same, either, answer-seq, lapwise}
+use Rattle.reader.specs.Answer.{Answer, got, short, bad, answer, retold, answer-judged, and, either, answer-seq, lapwise}
 use Rattle.reader.specs.Branch.{fresh}
 use Rattle.parts.specs.declared.Error.{Error}
 use Rattle.parts.specs.declared.Passed.{Passed}

@@ -2,18 +2,18 @@
 -- Assumes nothing.
 use Prim.Native.Nat.{ℕ, _+_}
 use native.Mathlib.Omega.{arith}
-use mathlib.Core.Path.{_≡_, refl, sym, ap, _∙_}
+use mathlib.Core.Path.{_≡_, refl, sym, ap}
 use mathlib.Core.List.{List, [], _∷_, _++_}
-use mathlib.Core.Bool.{Bool, true, false, _&&_}
+use mathlib.Core.Bool.{true, _&&_}
 use lib.Dec.{eqb}
 use lib.ListN.{length}
 use borrow.Author.Tests.{eqb-true}
-use Rattle.reader.specs.Machine.{Move, Run, gave, Step, after, run}
-use Rattle.exact.specs.Exact.{Relation, Part, Exact}
+use Rattle.reader.specs.Machine.{Move, gave, after, run}
+use Rattle.reader.specs.Tests.{split, both-true}
+use Rattle.exact.specs.Exact.{Part, Exact}
 use Rattle.parts.specs.declared.Error.{Error}
 use Rattle.rules.specs.Rules.{Rules}
 use Rattle.spaces.specs.Space.{behindCodeStep}
-use Rattle.leaves.specs.Rows.{split, both-true}
 
 pub data Behind (r : Rules) (p : ℕ) : List ℕ → Unit {0} → List ℕ → Type 0 where
   space : {rest : List ℕ} → Behind r p (32 ∷ []) tt rest

@@ -8,13 +8,13 @@ use mathlib.Core.Bool.{Bool, true, false, _&&_, cond}
 use lib.Dec.{eqb}
 use lib.ListN.{length, length-append}
 use borrow.Author.Tests.{eqb-true}
-use Rattle.reader.specs.Machine.{Move, keep, before, Run, gave, Step, after, run}
-use Rattle.exact.specs.Exact.{Relation, Part, Exact}
+use Rattle.reader.specs.Machine.{Move, keep, before, gave, after, run}
+use Rattle.reader.specs.Tests.{split, both-true}
+use Rattle.exact.specs.Exact.{Part, Exact}
 use Rattle.parts.specs.declared.Error.{Error}
 use Rattle.rules.specs.Rules.{Rules}
 use Rattle.grammar.specs.Message.{line-end, crlf, lf, empty-lines, none, more}
 use Rattle.parts.specs.EmptyLines.{EmptyLines, start, cr, emptyLinesStep}
-use Rattle.leaves.specs.Rows.{split, both-true}
 
 -- a byte that begins no empty line
 pub record Stops (r : Rules) (rest : List ℕ) : Type 0 where

@@ -2,18 +2,18 @@
 -- Assumes nothing.
 use Prim.Native.Nat.{ℕ, _+_}
 use native.Mathlib.Omega.{arith}
-use mathlib.Core.Path.{_≡_, refl, sym, ap, _∙_}
+use mathlib.Core.Path.{_≡_, sym, ap, _∙_}
 use mathlib.Core.List.{List, [], _∷_, _++_}
-use mathlib.Core.Bool.{Bool, true, false, _&&_, cond}
+use mathlib.Core.Bool.{_&&_}
 use lib.Dec.{eqb}
 use lib.ListN.{length}
 use borrow.Author.Tests.{eqb-true}
-use Rattle.reader.specs.Machine.{Move, keep, give, refuse, Run, more, gave, refused, Step, after, run}
+use Rattle.reader.specs.Machine.{gave, after, run}
+use Rattle.reader.specs.Tests.{split, both-true}
 use Rattle.exact.specs.Exact.{Relation, Part, Exact}
 use Rattle.rules.specs.Rules.{Rules}
 use Rattle.grammar.specs.Message.{line-end, crlf, lf}
-use Rattle.parts.specs.LineEnd.{LineEnd, begin, cr, lineEndStep}
-use Rattle.leaves.specs.Rows.{split, both-true}
+use Rattle.parts.specs.LineEnd.{begin, cr, lineEndStep}
 
 abbrev pub EndsAt : Rules → Relation (Unit {0})
 EndsAt r p w a rest = line-end r w

@@ -4,17 +4,17 @@ use Prim.Native.Nat.{ℕ, suc, _+_}
 use native.Mathlib.Omega.{arith}
 use mathlib.Core.Path.{_≡_, refl, sym, ap, subst, _∙_}
 use mathlib.Core.List.{List, [], _∷_, _++_, append-assoc}
-use mathlib.Core.Bool.{Bool, true, false, not, _||_, cond}
+use mathlib.Core.Bool.{Bool, true, false, not}
 use lib.ListN.{length, length-append}
-use Rattle.reader.specs.Machine.{Move, Run, gave, Step, after, run}
-use Rattle.exact.specs.Exact.{Relation, Part, Exact}
+use Rattle.reader.specs.Machine.{gave, after, run}
+use Rattle.reader.specs.Tests.{split}
+use Rattle.exact.specs.Exact.{Part, Exact}
 use Rattle.octets.specs.Class.{isValue, isAscii}
-use Rattle.parts.specs.declared.Error.{Error}
 use Rattle.parts.specs.declared.Piece.{Piece}
 use Rattle.parts.specs.Answers.{piece}
-use Rattle.status.specs.Reason.{Reason, none, inside, empty, reasonStep}
+use Rattle.status.specs.Reason.{none, inside, empty, reasonStep}
 use Rattle.grammar.specs.Rows.{Many, none as no-more, more}
-use Rattle.leaves.specs.Rows.{In, split}
+use Rattle.leaves.specs.Rows.{In}
 use Rattle.leaves.specs.Value.{Stop}
 
 -- a text byte that is ASCII, and one that is not

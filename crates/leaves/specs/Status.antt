@@ -1,20 +1,19 @@
 -- The small parts of a status line: a space, what stands behind a code, and a code of three digits.
 -- Assumes nothing.
-use Prim.Native.Nat.{ℕ, suc, _+_}
+use Prim.Native.Nat.{ℕ, _+_}
 use native.Mathlib.Omega.{arith}
 use mathlib.Core.Path.{_≡_, refl, sym, ap, subst, _∙_}
 use mathlib.Core.List.{List, [], _∷_, _++_}
-use mathlib.Core.Bool.{Bool, true, false, _&&_}
 use lib.Dec.{eqb}
 use lib.ListN.{length}
 use borrow.Author.Tests.{eqb-true}
-use Rattle.reader.specs.Machine.{Run, gave, Step, after, run}
-use Rattle.exact.specs.Exact.{Relation, Part, Exact}
+use Rattle.reader.specs.Machine.{gave, after, run}
+use Rattle.reader.specs.Tests.{split}
+use Rattle.exact.specs.Exact.{Part, Exact}
 use Rattle.octets.specs.Class.{isDigit}
-use Rattle.parts.specs.declared.Error.{Error}
 use Rattle.spaces.specs.Space.{spaceStep}
-use Rattle.status.specs.Code.{Code, none, one, two, onto, codeStep}
-use Rattle.leaves.specs.Rows.{In, split}
+use Rattle.status.specs.Code.{none, one, two, onto, codeStep}
+use Rattle.leaves.specs.Rows.{In}
 
 pub data Spaced (p : ℕ) : List ℕ → Unit {0} → List ℕ → Type 0 where
   space : {rest : List ℕ} → Spaced p (32 ∷ []) tt rest

@@ -4,13 +4,14 @@ use Prim.Native.Nat.{ℕ, suc, _+_}
 use native.Mathlib.Omega.{arith}
 use mathlib.Core.Path.{_≡_, refl, sym, ap, _∙_}
 use mathlib.Core.List.{List, [], _∷_, _++_, append-assoc}
-use mathlib.Core.Bool.{Bool, true, false}
+use mathlib.Core.Bool.{true, false}
 use lib.Dec.{eqb}
 use lib.ListN.{length, length-append}
 use borrow.Author.Tests.{eqb-true}
-use Rattle.reader.specs.Machine.{Move, Run, gave, more as wants, Step, after, run}
+use Rattle.reader.specs.Machine.{Move, gave, more as wants, after, run}
 use Rattle.reader.specs.Laws.{resume}
-use Rattle.exact.specs.Exact.{Relation, Part, Exact}
+use Rattle.reader.specs.Tests.{split}
+use Rattle.exact.specs.Exact.{Part, Exact}
 use Rattle.octets.specs.Class.{within, isTarget}
 use Rattle.utf8.specs.Reader.{machine, whole, utf8}
 use Rattle.parts.specs.declared.Error.{Error}
@@ -18,7 +19,7 @@ use Rattle.parts.specs.declared.Piece.{Piece}
 use Rattle.parts.specs.Answers.{piece}
 use Rattle.words.specs.Target.{Utf8, Target, none, some as inside, feed, targetStep, resume-none, resume-fed, anywhere}
 use Rattle.grammar.specs.Rows.{Many, none as no-more, more, Some, some}
-use Rattle.leaves.specs.Rows.{In, split}
+use Rattle.leaves.specs.Rows.{In}
 
 -- the bytes v and a space; the answer is the piece of v
 pub record Targeted (p : ℕ) (w : List ℕ) (a : Piece) (rest : List ℕ) : Type 0 where

@@ -6,15 +6,16 @@ use mathlib.Core.Path.{_≡_, refl, sym, ap, subst, _∙_}
 use mathlib.Core.List.{List, [], _∷_, _++_, append-assoc}
 use mathlib.Core.Bool.{Bool, true, false, _||_, cond}
 use lib.ListN.{length, length-append}
-use Rattle.reader.specs.Machine.{Move, Run, gave, Step, after, run}
-use Rattle.exact.specs.Exact.{Relation, Part, Exact}
+use Rattle.reader.specs.Machine.{Move, gave, after, run}
+use Rattle.reader.specs.Tests.{split}
+use Rattle.exact.specs.Exact.{Part, Exact}
 use Rattle.octets.specs.Class.{isBlank, isTarget, isValue}
 use Rattle.parts.specs.declared.Error.{Error}
 use Rattle.parts.specs.declared.Piece.{Piece}
 use Rattle.parts.specs.Answers.{piece}
-use Rattle.values.specs.Value.{Value, blanks, inside, valueStep}
+use Rattle.values.specs.Value.{Value, blanks, inside, valueStep, blank-value}
 use Rattle.grammar.specs.Rows.{Many, none, more}
-use Rattle.leaves.specs.Rows.{In, split}
+use Rattle.leaves.specs.Rows.{In}
 
 -- a byte of a value that is no blank
 pub record Solid (b : ℕ) : Type 0 where
@@ -114,10 +115,6 @@ neither false t e = refl
 no-value : (b : ℕ) → isValue b ≡ false → isBlank b ≡ false
 unfolding isValue
 no-value b e = neither (isBlank b) (isTarget b) e
-
-blank-value : (b : ℕ) → isBlank b ≡ true → isValue b ≡ true
-unfolding isValue
-blank-value b e = rw e
 
 stop-blanks : (p : ℕ) (rest : List ℕ) → Stop rest → run valueStep blanks p rest ≡ gave (piece p p) p
 stop-blanks p rest s = rw (s .whole, no-value (s .b) (s .stops), s .stops)

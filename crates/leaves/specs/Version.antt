@@ -1,18 +1,17 @@
 -- A version is read exactly where HTTP/1.0 or HTTP/1.1 stands.
 -- Assumes nothing.
-use Prim.Native.Nat.{ℕ, suc, _+_}
+use Prim.Native.Nat.{ℕ, _+_}
 use native.Mathlib.Omega.{arith}
-use mathlib.Core.Path.{_≡_, refl, sym, ap, _∙_}
+use mathlib.Core.Path.{_≡_, refl, ap, _∙_}
 use mathlib.Core.List.{List, [], _∷_, _++_}
-use mathlib.Core.Bool.{Bool, true, false}
 use lib.Dec.{eqb}
 use lib.ListN.{length}
 use borrow.Author.Tests.{eqb-true, eq-eqb}
-use Rattle.reader.specs.Machine.{Run, gave, give, Step, after, run}
+use Rattle.reader.specs.Machine.{Run, gave, give, after, run}
+use Rattle.reader.specs.Tests.{split}
 use Rattle.exact.specs.Exact.{Relation, Part, Exact}
 use Rattle.parts.specs.declared.Error.{Error}
 use Rattle.versions.specs.Version.{name, versionStep}
-use Rattle.leaves.specs.Rows.{split}
 
 -- what is left of a name, and a digit
 pub data Digit (es : List ℕ) : List ℕ → ℕ → Type 0 where

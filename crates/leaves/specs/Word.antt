@@ -4,17 +4,18 @@ use Prim.Native.Nat.{ℕ, suc, _+_}
 use native.Mathlib.Omega.{arith}
 use mathlib.Core.Path.{_≡_, refl, sym, ap, _∙_}
 use mathlib.Core.List.{List, [], _∷_, _++_, append-assoc}
-use mathlib.Core.Bool.{Bool, true, false, cond}
+use mathlib.Core.Bool.{Bool, true, false}
 use lib.Dec.{eqb}
 use lib.ListN.{length, length-append}
 use borrow.Author.Tests.{eqb-true, eq-eqb}
-use Rattle.reader.specs.Machine.{Run, gave, Step, after, run}
-use Rattle.exact.specs.Exact.{Relation, Part, Exact}
+use Rattle.reader.specs.Machine.{Run, gave, after, run}
+use Rattle.reader.specs.Tests.{split}
+use Rattle.exact.specs.Exact.{Part, Exact}
 use Rattle.parts.specs.declared.Piece.{Piece}
 use Rattle.parts.specs.Answers.{piece}
 use Rattle.words.specs.Word.{Word, none, some as inside, wordStep}
 use Rattle.grammar.specs.Rows.{Many, none as no-more, more, Some, some}
-use Rattle.leaves.specs.Rows.{In, split}
+use Rattle.leaves.specs.Rows.{In}
 
 -- the bytes v and the byte that ends them; the answer is the piece of v
 pub record Worded (class : ℕ → Bool) (end : ℕ) (p : ℕ) (w : List ℕ) (a : Piece) (rest : List ℕ) : Type 0 where

@@ -3,9 +3,10 @@
 use Prim.Native.Nat.{ℕ, _+_, _-_, _*_}
 use Prim.Native.String.{String}
 use native.Mathlib.Omega.{arith}
-use mathlib.Core.Path.{_≡_, refl, sym, ap, subst, _∙_}
+use mathlib.Core.Path.{_≡_, refl, sym, ap, subst}
 use mathlib.Core.List.{List, [], _∷_, _++_}
 use mathlib.Core.Bool.{Bool, true, false, _&&_, _||_, false≢true}
+use Rattle.reader.specs.Tests.{both-true}
 use Rattle.octets.specs.Grammar as bytes
 use Rattle.octets.specs.Class.{within, isToken, isTarget, isValue}
 use Rattle.octets.proofs.Ties.{in-range, target-is-field-vchar}
@@ -14,7 +15,7 @@ use Rattle.grammar.specs.Rows.{Many, none, more, Some, some}
 use Rattle.grammar.specs.Fields.{token, field-value, Field}
 use Rattle.grammar.specs.Message.{space, colon, CRLF, crlf, request-target, status-code, plain-text, header-block, request-head, response-head}
 use Rattle.grammar.specs.Message as grammar
-use Rattle.leaves.specs.Rows.{In, both-true}
+use Rattle.leaves.specs.Rows.{In}
 use Rattle.leaves.specs.Value.{Solid, Core, one, two}
 use Rattle.agreement.specs.Rows.{some-as, tokens}
 use Rattle.agreement.specs.Value.{core-value, is-solid}

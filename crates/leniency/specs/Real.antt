@@ -5,7 +5,7 @@ use Prim.Native.Nat.{ℕ, _+_, _*_, _≤_}
 use native.Mathlib.Omega.{arith}
 use mathlib.Core.Path.{_≡_, refl, sym, ap, _∙_}
 use mathlib.Core.List.{List, [], _∷_, _++_, append-assoc}
-use mathlib.Core.Bool.{Bool, true, false, false≢true}
+use mathlib.Core.Bool.{Bool, true, false}
 use lib.Dec.{eqb}
 use lib.ListN.{length}
 use borrow.Author.Tests.{eqb-false}
@@ -279,17 +279,33 @@ not-blank {b} c f h e = clash (blank-is-blank b .1 h) (ap isBlank e ∙ f)
 not-token : {b : ℕ} (c : ℕ) → isToken c ≡ false → tchar b → b ≡ c → ⊥
 not-token {b} c f h e = no-token {c = c} f h e
 
+-- what is behind a size: nothing; blanks, where they are allowed; or a semicolon behind blanks
+data View (r : Rules) : List ℕ → Type 0 where
+  nothing : View r []
+  blanks : {w : List ℕ} → r .blank-behind-size ≡ true → Many blank w → View r w
+  semicolon : {o x : List ℕ} (w : List ℕ) → Many blank o → x ≡ o ++ (59 ∷ w) → View r x
+
+view : {r : Rules} {x : List ℕ} → behind-size r x → View r x
+view (chunked.behind-size.extension chunked.chunk-ext.none) = nothing
+view (chunked.behind-size.extension (chunked.chunk-ext.name {a = a} {b = b} {n = n} {x = x} k l m y)) =
+    let e : a ++ chunked.semicolon ++ b ++ n ++ x ≡ a ++ (59 ∷ (b ++ (n ++ x))) = simp append-assoc in
+    semicolon (b ++ (n ++ x)) k e
+view (chunked.behind-size.extension (chunked.chunk-ext.value {a = a} {b = b} {n = n} {c = c} {d = d} {v = v} {x = x} k l m i j u y)) =
+    let w : List ℕ = b ++ (n ++ (c ++ (chunked.equals ++ (d ++ (v ++ x))))) in
+    let e : a ++ chunked.semicolon ++ b ++ n ++ c ++ chunked.equals ++ d ++ v ++ x ≡ a ++ (59 ∷ w) = simp append-assoc in
+    semicolon w k e
+view (chunked.behind-size.blanks t o) = blanks t o
+view (chunked.behind-size.any {o = o} {w = w} t h k) =
+    let e : o ++ chunked.semicolon ++ w ≡ o ++ (59 ∷ w) = simp append-assoc in
+    semicolon w h e
+
 -- a digit is none of the bytes that may follow the size
-begins : {r : Rules} {x : List ℕ} (b : ℕ) → isBlank b ≡ false → eqb 59 b ≡ false → eqb 13 b ≡ false → behind-size r x → (zs ys : List ℕ) → x ++ (13 ∷ zs) ≡ b ∷ ys → ⊥
-begins b f g h (chunked.behind-size.extension chunked.chunk-ext.none) zs ys e = eqb-false 13 b h (same-head e)
-begins b f g h (chunked.behind-size.extension (chunked.chunk-ext.name none k m x)) zs ys e = eqb-false 59 b g (same-head e)
-begins b f g h (chunked.behind-size.extension (chunked.chunk-ext.name (more y l) k m x)) zs ys e = not-blank b f y (same-head e)
-begins b f g h (chunked.behind-size.extension (chunked.chunk-ext.value none k m i j v x)) zs ys e = eqb-false 59 b g (same-head e)
-begins b f g h (chunked.behind-size.extension (chunked.chunk-ext.value (more y l) k m i j v x)) zs ys e = not-blank b f y (same-head e)
-begins b f g h (chunked.behind-size.blanks t none) zs ys e = eqb-false 13 b h (same-head e)
-begins b f g h (chunked.behind-size.blanks t (more y l)) zs ys e = not-blank b f y (same-head e)
-begins b f g h (chunked.behind-size.any t none w) zs ys e = eqb-false 59 b g (same-head e)
-begins b f g h (chunked.behind-size.any t (more y l) w) zs ys e = not-blank b f y (same-head e)
+begins : {r : Rules} {x : List ℕ} (b : ℕ) → isBlank b ≡ false → eqb 59 b ≡ false → eqb 13 b ≡ false → View r x → (zs ys : List ℕ) → x ++ (13 ∷ zs) ≡ b ∷ ys → ⊥
+begins b f g h nothing zs ys e = eqb-false 13 b h (same-head e)
+begins b f g h (blanks t none) zs ys e = eqb-false 13 b h (same-head e)
+begins b f g h (blanks t (more y l)) zs ys e = not-blank b f y (same-head e)
+begins b f g h (semicolon w none q) zs ys e = eqb-false 59 b g (same-head (ap (λ y. y ++ (13 ∷ zs)) (sym q) ∙ e))
+begins b f g h (semicolon w (more y l) q) zs ys e = not-blank b f y (same-head (ap (λ y. y ++ (13 ∷ zs)) (sym q) ∙ e))
 
 -- a line that starts with the digit 0 and another byte that is none: what is behind the size
 behind-zero : {r : Rules} {s x : List ℕ} {n : ℕ} (b : ℕ) (ys : List ℕ) → isHexDigit b ≡ false → chunk-size r s n → behind-size r x → s ++ x ++ CRLF ≡ 48 ∷ b ∷ ys → x ++ CRLF ≡ b ∷ ys
@@ -297,24 +313,18 @@ unfolding isBlank among
 behind-zero {r} {s} {x} b ys f k d e = by (size-row k) e
   where
     by : {s : List ℕ} → Many HEXDIG s → s ++ x ++ CRLF ≡ 48 ∷ b ∷ ys → x ++ CRLF ≡ b ∷ ys
-    by none q = absurd (begins 48 refl refl refl d (10 ∷ []) (b ∷ ys) q)
+    by none q = absurd (begins 48 refl refl refl (view d) (10 ∷ []) (b ∷ ys) q)
     by (more h none) q = same-tail q
     by (more h (more g l)) q = absurd (not-digit b f g (same-head (same-tail q)))
 
 -- blank-behind-size
-no-blanks : {r : Rules} {x : List ℕ} → r .blank-behind-size ≡ false → behind-size r x → x ++ CRLF ≡ 32 ∷ 13 ∷ 10 ∷ [] → ⊥
+no-blanks : {r : Rules} {x : List ℕ} → r .blank-behind-size ≡ false → View r x → x ++ CRLF ≡ 32 ∷ 13 ∷ 10 ∷ [] → ⊥
 unfolding isBlank among
-no-blanks f (chunked.behind-size.extension chunked.chunk-ext.none) e = eqb-false 13 32 refl (same-head e)
-no-blanks f (chunked.behind-size.extension (chunked.chunk-ext.name none k m x)) e = eqb-false 59 32 refl (same-head e)
-no-blanks f (chunked.behind-size.extension (chunked.chunk-ext.name (more y none) k m x)) e = eqb-false 59 13 refl (same-head (same-tail e))
-no-blanks f (chunked.behind-size.extension (chunked.chunk-ext.name (more y (more z l)) k m x)) e = not-blank 13 refl z (same-head (same-tail e))
-no-blanks f (chunked.behind-size.extension (chunked.chunk-ext.value none k m i j v x)) e = eqb-false 59 32 refl (same-head e)
-no-blanks f (chunked.behind-size.extension (chunked.chunk-ext.value (more y none) k m i j v x)) e = eqb-false 59 13 refl (same-head (same-tail e))
-no-blanks f (chunked.behind-size.extension (chunked.chunk-ext.value (more y (more z l)) k m i j v x)) e = not-blank 13 refl z (same-head (same-tail e))
-no-blanks f (chunked.behind-size.blanks t o) e = clash t f
-no-blanks f (chunked.behind-size.any t none w) e = eqb-false 59 32 refl (same-head e)
-no-blanks f (chunked.behind-size.any t (more y none) w) e = eqb-false 59 13 refl (same-head (same-tail e))
-no-blanks f (chunked.behind-size.any t (more y (more z l)) w) e = not-blank 13 refl z (same-head (same-tail e))
+no-blanks f nothing e = eqb-false 13 32 refl (same-head e)
+no-blanks f (blanks t o) e = clash t f
+no-blanks f (semicolon w none q) e = eqb-false 59 32 refl (same-head (ap (λ y. y ++ CRLF) (sym q) ∙ e))
+no-blanks f (semicolon w (more y none) q) e = eqb-false 59 13 refl (same-head (same-tail (ap (λ y. y ++ CRLF) (sym q) ∙ e)))
+no-blanks f (semicolon w (more y (more z l)) q) e = not-blank 13 refl z (same-head (same-tail (ap (λ y. y ++ CRLF) (sym q) ∙ e)))
 
 zero : {w : List ℕ} {n : ℕ} → hexadecimal w n → hexadecimal (w ++ (48 ∷ [])) (n * 16 + 0)
 unfolding within
@@ -325,7 +335,7 @@ one-zero-digit = chunked.chunk-size.digits (zero chunked.hexadecimal.none) (omeg
 
 no-blank-line : {r : Rules} {w : List ℕ} {n : ℕ} → r .blank-behind-size ≡ false → chunk-line r w n → w ≡ ascii "0 \r\n" → ⊥
 unfolding isHexDigit isDigit within
-no-blank-line f (chunked.chunk-line.line k d) e = no-blanks f d (behind-zero 32 (ascii "\r\n") refl k d e)
+no-blank-line f (chunked.chunk-line.line k d) e = no-blanks f (view d) (behind-zero 32 (ascii "\r\n") refl k d e)
 
 pub blank-behind-size-real : Real (λ r. r .blank-behind-size) (Chunk (ascii "0 \r\n"))
 blank-behind-size-real = (

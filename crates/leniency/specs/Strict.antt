@@ -3,7 +3,7 @@
 -- Assumes nothing.
 use Prim.Native.Nat.{ℕ, _+_, _-_, _≤_}
 use native.Mathlib.Omega.{arith}
-use mathlib.Core.Path.{_≡_, refl, sym, ap, subst, _∙_}
+use mathlib.Core.Path.{_≡_, refl, sym, ap, subst}
 use mathlib.Core.Logic.{_⊎_, inl, inr}
 use mathlib.Core.List.{List, [], _∷_, _++_, append-assoc}
 use mathlib.Core.Bool.{true, false, false≢true}
@@ -15,7 +15,7 @@ use Rattle.grammar.specs.Rows.{Many, none, more, Some, some}
 use Rattle.grammar.specs.Fields.{Field}
 use Rattle.grammar.specs.Message.{line-end, crlf, lf, empty-lines, Version, HTTP-version, one-zero, one-one, other, request-target, RequestLine, request-line, status-code, plain-text, reason-phrase, StatusLine, status-line, header-block, head, request-head, response-head}
 use Rattle.grammar.specs.Message as grammar
-use Rattle.agreement.specs.Rows.{some-as}
+use Rattle.agreement.specs.Rows.{some-as, many-append}
 use Rattle.grammar.specs.Chunked.{hexadecimal, chunk-size, behind-size, chunk-line}
 use Rattle.grammar.specs.Chunked as chunked
 
@@ -133,13 +133,9 @@ strict-headers = block-as never
 abbrev pub Few : List ℕ → Type 0
 Few w = (s x : List ℕ) → w ≡ s ++ x → Many HEXDIG s → length s ≤ 16
 
-snoc : {c : ℕ → Type 0} {w : List ℕ} {b : ℕ} → Many c w → c b → Many c (w ++ (b ∷ []))
-snoc none x = more x none
-snoc (more y k) x = more y (snoc k x)
-
 pub hexadecimal-row : {w : List ℕ} {n : ℕ} → hexadecimal w n → Many HEXDIG w
 hexadecimal-row chunked.hexadecimal.none = none
-hexadecimal-row (chunked.hexadecimal.more h d) = snoc (hexadecimal-row h) d
+hexadecimal-row (chunked.hexadecimal.more h d) = many-append (hexadecimal-row h) (more d none)
 
 size-too : {s : List ℕ} {n : ℕ} → length s ≤ 16 → chunk-size strict s n → chunk-size default s n
 size-too f (chunked.chunk-size.digits h l g) = chunked.chunk-size.digits h l (λ _. f)

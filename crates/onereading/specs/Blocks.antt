@@ -1,23 +1,22 @@
 -- The headers that a block has given stay given as bytes arrive.
 -- Assumes nothing.
-use Prim.Native.Nat.{ℕ, zero, suc, _+_, _*_, _≤_, _<_}
+use Prim.Native.Nat.{ℕ, zero, suc, _+_, _*_, _≤_}
 use native.Mathlib.Omega.{arith}
 use mathlib.Core.Path.{_≡_, refl, sym, ap, subst, _∙_}
 use mathlib.Core.List.{List, [], _∷_, _++_, append-assoc, append-nil}
-use mathlib.Core.Bool.{Bool, true, false}
 use lib.Dec.{ltb}
-use lib.ListN.{length, take, drop, length-append}
+use lib.ListN.{length, take, drop}
 use lib.Seq.{take-at}
-use Rattle.reader.specs.Answer.{Answer, got, short, bad, answer, verdict, retold, rounds}
+use Rattle.reader.specs.Answer.{Answer, got, short, bad, verdict, retold, rounds}
 use Rattle.reader.specs.Chain.{nothing}
 use Rattle.reader.specs.Branch.{fresh}
+use Rattle.reader.specs.Tests.{split}
 use Rattle.rules.specs.Rules.{Rules}
 use Rattle.parts.specs.declared.Error.{Error}
 use Rattle.fields.specs.declared.Header.{Header}
 use Rattle.fields.specs.Line.{Kind, header, end, lineStep, line}
 use Rattle.blocks.specs.Slots.{numbers, flat, filled, length-flat}
 use Rattle.blocks.specs.Block.{taken, block, block-line, given}
-use Rattle.leaves.specs.Rows.{split}
 use Rattle.agreement.specs.Fields.{line-within, given-all}
 use Rattle.onereading.specs.Later.{Later, same, waited, later}
 

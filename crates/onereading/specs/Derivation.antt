@@ -10,7 +10,7 @@ use Rattle.reader.specs.Machine.{gave, run}
 use Rattle.reader.specs.Answer.{got}
 use Rattle.rules.specs.Rules.{Rules, default}
 use Rattle.grammar.specs.Fields.{Field}
-use Rattle.grammar.specs.Message.{line-end, Version, HTTP-version, one-zero, one-one, RequestLine, request-line, request-head, StatusLine, status-line, response-head, header-block}
+use Rattle.grammar.specs.Message.{Version, HTTP-version, one-zero, one-one, RequestLine, request-line, request-head, StatusLine, status-line, response-head, header-block}
 use Rattle.grammar.specs.Message as grammar
 use Rattle.grammar.specs.Chunked.{chunk-line}
 use Rattle.fields.specs.declared.Header.{Header}
@@ -23,6 +23,7 @@ use Rattle.statusline.specs.declared.StatusLine as told-status
 use Rattle.heads.specs.Head.{Heads, Known}
 use Rattle.heads.specs.Calls.{request, response}
 use Rattle.chunks.specs.Chunk.{digits, chunkStep}
+use Rattle.agreement.specs.Block.{ends-long}
 use Rattle.agreement.specs.Fields.{fieldsOf}
 use Rattle.agreement.specs.Known.{Holds, Counts, RequestSays, StatusSays}
 use Rattle.agreement.specs.Exactly.{Exactly}
@@ -114,10 +115,6 @@ pub data Row {L : Type 0} (Head : List ℕ → L → List Field → Type 0) : Li
   more : {w v : List ℕ} {l : L} {fs : List Field} {rest : List (L × List Field)} → Head w l fs → Row Head v rest → Row Head (w ++ v) ((l, fs) ∷ rest)
 
 -- no head is empty
-ends-long : {r : Rules} {e : List ℕ} → line-end r e → 1 ≤ length e
-ends-long grammar.crlf = omega arith
-ends-long (grammar.lf t) = omega arith
-
 block-long : {r : Rules} {w : List ℕ} {fs : List Field} → header-block r w fs → 1 ≤ length w
 block-long (grammar.header-block.end e) = ends-long e
 block-long (grammar.header-block.field {w = w} {e = e} {b = b} f d k) = omega (arith, length-append (w ++ e) b, block-long k)

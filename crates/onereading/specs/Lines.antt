@@ -1,17 +1,16 @@
 -- What is known of a start line stays known as bytes arrive.
 -- Assumes nothing.
 use Prim.Native.Nat.{ℕ}
-use mathlib.Core.Path.{_≡_, refl, sym, ap, subst, _∙_}
+use mathlib.Core.Path.{_≡_, refl, subst}
 use mathlib.Core.List.{List, _++_}
-use Rattle.reader.specs.Seq.{first}
-use Rattle.reader.specs.Chain.{nothing, last, chain, ended}
+use Rattle.reader.specs.Chain.{nothing}
 use Rattle.octets.specs.Class.{isToken}
 use Rattle.rules.specs.Rules.{Rules}
 use Rattle.parts.specs.declared.Error.the-variants.{NewLine, Status, Token, Version}
 use Rattle.parts.specs.declared.Piece.{Piece}
 use Rattle.parts.specs.LineEnd.{begin, lineEndStep, lineEnd}
-use Rattle.parts.specs.EmptyLines.{start, emptyLinesStep, emptyLines}
-use Rattle.words.specs.Word.{wordStep, word}
+use Rattle.parts.specs.EmptyLines.{start, emptyLinesStep}
+use Rattle.words.specs.Word.{wordStep}
 use Rattle.words.specs.Word as words
 use Rattle.words.specs.Target.{targetStep, target}
 use Rattle.words.specs.Target as targets

@@ -5,14 +5,13 @@ use mathlib.Core.Path.{_≡_, refl}
 use mathlib.Core.List.{List, _++_}
 use lib.ListN.{length}
 use Rattle.rules.specs.Rules.{default}
-use Rattle.grammar.specs.Fields.{Field}
 use Rattle.grammar.specs.Message.{request-head, response-head}
 use Rattle.parts.specs.declared.Passed.{Passed}
 use Rattle.parts.specs.declared.Passed.the-variants.{At}
 use Rattle.requestline.specs.declared.RequestLine.{RequestLine}
 use Rattle.statusline.specs.declared.StatusLine.{StatusLine}
 use Rattle.agreement.specs.Known.{RequestSays, StatusSays, RequestInside, StatusInside, fieldsIn}
-use Rattle.agreement.specs.Promises.{HeadAt, HeadPromise, block-alone, says-nothing, lies-nowhere}
+use Rattle.agreement.specs.Promises.{HeadPromise, block-alone, says-nothing, lies-nowhere}
 use Rattle.plain.specs.Plain.{plain-request, plain-response, plain-fields}
 use Rattle.plain.specs.Derived.{plain-request-derived, plain-response-derived, plain-block}
 

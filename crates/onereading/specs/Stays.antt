@@ -1,11 +1,10 @@
 -- An answer never changes when more bytes arrive: what each call told on s it tells on s and anything behind it.
 -- Assumes nothing.
-use Prim.Native.Nat.{ℕ, _+_, _*_, _/_, _≤_}
+use Prim.Native.Nat.{ℕ, _+_, _*_, _≤_}
 use native.Mathlib.Omega.{arith}
 use mathlib.Core.Path.{_≡_, refl, sym, ap, subst, _∙_}
-use mathlib.Core.List.{List, [], _∷_, _++_, append-assoc}
-use lib.ListN.{length, take, drop, length-append}
-use lib.Seq.{take-at}
+use mathlib.Core.List.{List, [], _++_}
+use lib.ListN.{length, take, length-append}
 use Rattle.reader.specs.Machine.{Step, runAt}
 use Rattle.reader.specs.Seq.{first}
 use Rattle.reader.specs.Answer.{Answer, got, short, bad, answer, lapwise}
@@ -18,7 +17,6 @@ use Rattle.parts.specs.declared.Passed.the-variants.{At, More, Bad}
 use Rattle.parts.specs.EmptyLines.{start}
 use Rattle.fields.specs.declared.Header.{Header}
 use Rattle.blocks.specs.declared.Block.{Block}
-use Rattle.blocks.specs.Slots.{flat, filled, length-flat}
 use Rattle.blocks.specs.Block.{blockStep, block}
 use Rattle.blocks.specs.Block as blocks
 use Rattle.startline.specs.Answers.{tell}
@@ -34,7 +32,8 @@ use Rattle.chunks.specs.declared.ChunkSize.the-variants as sizes
 use Rattle.chunks.specs.Chunk.{digits, chunkStep, chunk, sizeOf}
 use Rattle.agreement.specs.Inside.{knownOf}
 use Rattle.agreement.specs.Exactly.{given-over, head-line}
-use Rattle.agreement.specs.Calls.{alone, given-block, alone-told}
+use Rattle.agreement.specs.Kept.{told-line}
+use Rattle.agreement.specs.Calls.{alone, alone-told}
 use Rattle.onereading.specs.Later.{Later, same, waited, later}
 use Rattle.onereading.specs.Lines.{SameRequest, request-line-grows, SameStatus, status-line-grows}
 use Rattle.onereading.specs.Blocks.{Starts, block-grows, slots-same}
@@ -73,15 +72,6 @@ module _ {K : Type 0} where
   decides : {a b : Heads K} {end end′ : Passed} {line line′ : K} {count count′ : ℕ} {old new new′ : List ℕ} → Later a b → Told a end line count old new → Told b end′ line′ count′ old new′ → (end ≡ More → ⊥) → (end′ ≡ end) × (line′ ≡ line) × (count′ ≡ count) × (new′ ≡ new)
   decides same T U n = told-same T U
   decides {end = end} {line = line} (waited {u = u}) T U n = absurd (n (told-more end (line, u .1) u (T .answer)))
-
-  -- the line that an answer tells is what the reader knows of it
-  told-line : {a : Heads K} {end : Passed} {line : K} {count : ℕ} {old new : List ℕ} → Told a end line count old new → knownOf a .0 ≡ line
-  told-line {a} {end} {line} T = ap (λ (y : Heads K). knownOf y .0) (sym (T .answer)) ∙ by end
-    where
-      by : (end : Passed) → knownOf {K = Known K} {E = Error} (tell end (line, given a)) .0 ≡ line
-      by (At q) = refl
-      by More = refl
-      by (Bad x) = refl
 
   stays : (Same : K → K → Type 0) {a b : Heads K} {end end′ : Passed} {line line′ : K} {count count′ : ℕ} {old new new′ : List ℕ} → Later a b → Same (knownOf a .0) (knownOf b .0) → Starts (given a) (given b) → Told a end line count old new → Told b end′ line′ count′ old new′ → HeadStays Same end end′ line line′ count count′ new new′
   stays Same {a} {b} {line = line} {line′ = line′} {count = count} {old = old} {new = new} {new′ = new′} L k s T U = record {
@@ -134,7 +124,7 @@ NoLine k l = Unit {0}
 pub headers-stays : (n : ℕ) (s t : List ℕ) {r r′ : Block} {old new new′ : List ℕ} → blocks.Told (block default n [] s 0) r old new → blocks.Told (block default n [] (s ++ t) 0) r′ old new′ → HeadStays NoLine (r .end) (r′ .end) tt tt (r .count) (r′ .count) new new′
 headers-stays n s t T U =
     stays NoLine (alone-later (later (lapwise (λ hs _. hs)) (blockStep default n) ([], fresh) s t 0)) tt
-    (subst (λ y. Starts y (given (alone (block default n [] (s ++ t) 0)))) (sym (given-block (block default n [] s 0))) (subst (Starts (blocks.given (block default n [] s 0))) (sym (given-block (block default n [] (s ++ t) 0))) (block-grows default n s t [] 0)))
+    (subst (λ y. Starts y (given (alone (block default n [] (s ++ t) 0)))) (sym (given-over tt (block default n [] s 0))) (subst (Starts (blocks.given (block default n [] s 0))) (sym (given-over tt (block default n [] (s ++ t) 0))) (block-grows default n s t [] 0)))
     (alone-told T) (alone-told U)
 
 -- a chunk size line

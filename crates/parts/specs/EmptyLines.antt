@@ -6,7 +6,7 @@ use mathlib.Core.List.{List}
 use mathlib.Core.Bool.{_&&_, cond}
 use lib.Dec.{eqb}
 use lib.ListN.{length, getD}
-use borrow.Author.Tests.{eq-eqb, ne-eqb}
+use borrow.Author.Tests.{ne-eqb}
 use Rattle.reader.specs.Machine.{keep, before, refuse, Step, runAt}
 use Rattle.reader.specs.Laws.{run-in, run-out}
 use Rattle.reader.specs.Answer.{Answer, got, short, bad}

@@ -1,6 +1,6 @@
 -- The plain form of every head is a head under default, with the same fields; under strict too, where the target and the code are strict.
 -- Assumes nothing.
-use Prim.Native.Nat.{ℕ, _+_, _-_, _*_, _/_, _%_, _≤_}
+use Prim.Native.Nat.{ℕ, _+_, _-_, _*_, _/_, _%_}
 use native.Mathlib.Omega.{arith}
 use mathlib.Core.Path.{_≡_, refl, sym, ap, subst, _∙_}
 use mathlib.Core.List.{List, [], _∷_, _++_, append-nil}
@@ -8,7 +8,7 @@ use mathlib.Core.Bool.{true, false, false≢true}
 use Rattle.octets.specs.Grammar.{Range, DIGIT}
 use Rattle.octets.specs.Grammar as bytes
 use Rattle.rules.specs.Rules.{Rules, strict, default}
-use Rattle.grammar.specs.Rows.{none, more, some}
+use Rattle.grammar.specs.Rows.{none, more}
 use Rattle.grammar.specs.Fields.{Field}
 use Rattle.grammar.specs.Message.{space, colon, CRLF, crlf, Version, HTTP-version, one-zero, one-one, request-target, RequestLine, status-code, reason-phrase, StatusLine, status-line, header-block, request-head, response-head}
 use Rattle.grammar.specs.Message as grammar

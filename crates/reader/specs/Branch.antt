@@ -1,6 +1,6 @@
 -- One of two machines, by the first byte.
 -- Assumes nothing.
-use mathlib.Core.Path.{_≡_, refl, sym, ap, _∙_}
+use mathlib.Core.Path.{_≡_, refl, ap, _∙_}
 use mathlib.Core.List.{List, [], _∷_}
 use mathlib.Core.Bool.{Bool, true, false, cond}
 use Prim.Native.Nat.{ℕ, _+_, _≤_, _<_}
@@ -8,7 +8,7 @@ use lib.ListN.{length, getD, drop}
 use Rattle.reader.specs.Machine.{Move, keep, give, before, refuse, Run, more, gave, refused, Step, after, run, runAt}
 use Rattle.reader.specs.Bytes.{drop-in}
 use Rattle.reader.specs.Laws.{run-out}
-use Rattle.reader.specs.Answer.{Answer, short, answer}
+use Rattle.reader.specs.Answer.{short, answer}
 
 -- before the first byte, or in one of the two
 pub data Branch (S T : Type 0) : Type 0 where

@@ -8,3 +8,4 @@ pub mod Loop
 pub mod Answer
 pub mod Chain
 pub mod Branch
+pub mod Tests

@@ -1,12 +1,12 @@
 -- The single space that parts two parts of a status line (RFC 9112, 4).
 -- Assumes nothing.
 use Prim.Native.Nat.{ℕ, _+_, _≤_, _<_}
-use mathlib.Core.Path.{_≡_, refl}
+use mathlib.Core.Path.{_≡_}
 use mathlib.Core.List.{List}
-use mathlib.Core.Bool.{_&&_, _||_, cond}
+use mathlib.Core.Bool.{_&&_, cond}
 use lib.Dec.{eqb}
 use lib.ListN.{length, getD}
-use borrow.Author.Tests.{eq-eqb, ne-eqb}
+use borrow.Author.Tests.{ne-eqb}
 use Rattle.reader.specs.Machine.{give, before, refuse, Step}
 use Rattle.reader.specs.Laws.{run-in, run-out}
 use Rattle.reader.specs.Answer.{Answer, got, short, bad}

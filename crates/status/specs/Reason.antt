@@ -3,15 +3,16 @@
 use Prim.Native.Nat.{ℕ, zero, suc, _+_, _-_, _≤_, _<_}
 use native.Mathlib.Decide.{decLt}
 use native.Mathlib.Omega.{arith}
-use mathlib.Core.Path.{_≡_, refl, _∙_}
+use mathlib.Core.Path.{_≡_}
 use mathlib.Core.List.{List}
-use mathlib.Core.Bool.{Bool, true, false, not, _&&_, _||_, cond, false≢true}
+use mathlib.Core.Bool.{Bool, true, false, not, _&&_, _||_, cond}
 use lib.ListN.{length, getD}
 use Rattle.reader.specs.Machine.{keep, before, Step, runAt}
 use Rattle.reader.specs.Skip.{Passed, Skipped, passed-part, skip}
 use Rattle.reader.specs.Laws.{run-in, run-out}
-use Rattle.reader.specs.Answer.{Answer, got, short, bad}
+use Rattle.reader.specs.Answer.{Answer, got, short}
 use Rattle.reader.specs.Chain.{reads}
+use Rattle.reader.specs.Tests.{both-true}
 use Rattle.octets.specs.Class.{isValue, isAscii}
 use Rattle.parts.specs.declared.Error.{Error}
 use Rattle.parts.specs.declared.Piece.{Piece}
@@ -37,14 +38,10 @@ reason xs at = reads reasonStep none xs at
 both : ℕ → Bool
 both b = isValue b && isAscii b
 
-both-split : (s t : Bool) → (s && t) ≡ true → (s ≡ true) × (t ≡ true)
-both-split true t e = (refl, e)
-both-split false t e = absurd (false≢true e)
-
 module _ (xs : List ℕ) (a : ℕ) where
   plain-passed : {i j : ℕ} → i ≤ length xs → Passed isValue xs i j → Passed isAscii xs i j → runAt reasonStep (inside a false) xs i ≡ runAt reasonStep (inside a false) xs j
   unfolding both
-  plain-passed l v c = skip reasonStep both (inside a false) (λ q b e. let w = both-split (isValue b) (isAscii b) e in rw (w .0, w .1)) xs l (record { from = v .from; inside = v .inside; all = λ k lo hi. rw (v .all k lo hi, c .all k lo hi) })
+  plain-passed l v c = skip reasonStep both (inside a false) (λ q b e. let w = both-true (isValue b) (isAscii b) e in rw (w .0, w .1)) xs l (record { from = v .from; inside = v .inside; all = λ k lo hi. rw (v .all k lo hi, c .all k lo hi) })
 
   obs-passed : {i j : ℕ} → i ≤ length xs → Passed isValue xs i j → runAt reasonStep (inside a true) xs i ≡ runAt reasonStep (inside a true) xs j
   obs-passed l v = skip reasonStep isValue (inside a true) (λ q b e. rw e) xs l v

@@ -11,7 +11,7 @@ use Rattle.reader.specs.Chain.{nothing, reads, ended, answer-ended, part, last,
 use Rattle.parts.specs.declared.Error.{Error}
 use Rattle.parts.specs.declared.Error.the-variants.{Status, Version}
 use Rattle.parts.specs.declared.Piece.{Piece}
-use Rattle.rules.specs.Rules.{Rules, default}
+use Rattle.rules.specs.Rules.{Rules}
 use Rattle.parts.specs.LineEnd.{LineEnd, begin, lineEndStep, lineEnd}
 use Rattle.parts.specs.EmptyLines.{EmptyLines, start, emptyLinesStep, emptyLines}
 use Rattle.versions.specs.Version.{name, versionStep, version}

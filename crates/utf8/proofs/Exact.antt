@@ -2,13 +2,14 @@
 -- Assumes nothing.
 use Prim.Native.Nat.{ℕ, _+_}
 use native.Mathlib.Omega.{arith}
-use mathlib.Core.Path.{_≡_, refl, sym}
+use mathlib.Core.Path.{_≡_, refl}
 use mathlib.Core.Logic.{_↔_}
 use mathlib.Core.List.{List, [], _∷_, _++_}
-use mathlib.Core.Bool.{Bool, true, false, cond, false≢true}
+use mathlib.Core.Bool.{true, false, cond, false≢true}
 use lib.Dec.{eqb}
 use borrow.Author.Tests.{eqb-true}
-use Rattle.reader.specs.Machine.{Move, keep, refuse, Run, after, run}
+use Rattle.reader.specs.Machine.{Move, keep, refuse, after, run}
+use Rattle.reader.specs.Tests.{split}
 use Rattle.octets.specs.Grammar.{Range}
 use Rattle.octets.specs.Class.{within}
 use Rattle.octets.proofs.Ties.{in-range, range-in}
@@ -33,11 +34,6 @@ after-3 c (next {b = b₂} x (next {b = b₃} y (rest o))) = rest (UTF8-octets.c
 
 after-4 : {b lo hi : ℕ} {bs : List ℕ} → ((x y z : ℕ) → Range lo hi x → Range 0x80 0xBF y → Range 0x80 0xBF z → UTF8-4 (b ∷ x ∷ y ∷ z ∷ [])) → Awaits ((lo, hi) ∷ tail ∷ tail ∷ []) bs → Awaits [] (b ∷ bs)
 after-4 c (next {b = b₂} x (next {b = b₃} y (next {b = b₄} z (rest o)))) = rest (UTF8-octets.char (UTF8-char.four (c b₂ b₃ b₄ x y z)) o)
-
--- what holds of either outcome of a test holds of the outcome
-split : {A : Type 0} (P : A → Type 0) (t : Bool) {a b : A} → (t ≡ true → P a) → (t ≡ false → P b) → P (cond t a b)
-split P true f g = f refl
-split P false f g = g refl
 
 module _ (b : ℕ) (bs : List ℕ) (p : ℕ) (ih : (s : State) → whole (run machine s (p + 1) bs) ≡ true → Awaits s bs) where
   abbrev Led : Move State ⊥ (Unit {0}) → Type 0

@@ -2,15 +2,13 @@
 -- Assumes nothing.
 use Prim.Native.Nat.{ℕ, _≤_, _<_}
 use native.Mathlib.Omega.{arith}
-use mathlib.Core.Path.{_≡_, refl}
+use mathlib.Core.Path.{_≡_}
 use mathlib.Core.List.{[], _∷_}
 use mathlib.Core.Bool.{true, false}
-use lib.Dec.{eqb}
-use borrow.Author.Tests.{eq-eqb, ne-eqb}
+use borrow.Author.Tests.{ne-eqb}
 use Rattle.reader.specs.Machine.{keep, refuse}
-use Rattle.octets.specs.Grammar.{Range}
 use Rattle.octets.specs.Class.{within}
-use Rattle.octets.proofs.Ties.{in-range, below-range, above-range, range-in}
+use Rattle.octets.proofs.Ties.{in-range, above-range, range-in}
 use Rattle.utf8.specs.Reader.{tail, lead}
 
 module _ (b : ℕ) where

@@ -1,7 +1,7 @@
 -- What the code's values mean to the reader.
 -- Assumes nothing.
 use Prim.Native.Nat.{ℕ, zero, suc}
-use mathlib.Core.List.{List, [], _∷_}
+use mathlib.Core.List.{[], _∷_}
 use lib.ListN.{replicate}
 use Rattle.reader.specs.Machine.{Move, keep, refuse}
 use Rattle.utf8.specs.declared.Awaited.{Awaited}

@@ -3,7 +3,7 @@
 use Prim.Native.Nat.{ℕ, zero, suc, _+_, _-_, _≤_, _<_}
 use native.Mathlib.Omega.{arith}
 use native.Mathlib.Decide.{decLt}
-use mathlib.Core.Path.{_≡_, refl, sym, _∙_}
+use mathlib.Core.Path.{_≡_, sym, _∙_}
 use mathlib.Core.List.{List}
 use mathlib.Core.Bool.{true, false, cond, false≢true}
 use lib.ListN.{length, getD}
@@ -31,7 +31,7 @@ abbrev pub value : List ℕ → ℕ → Answer (Unit {0}) Piece Error
 value xs at = reads valueStep blanks xs at
 
 -- a blank may stand in a value
-blank-value : (b : ℕ) → isBlank b ≡ true → isValue b ≡ true
+pub blank-value : (b : ℕ) → isBlank b ≡ true → isValue b ≡ true
 unfolding isValue
 blank-value b e = rw e
 

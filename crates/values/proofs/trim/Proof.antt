@@ -1,6 +1,5 @@
 -- `values::trim` meets its contract: all that the loop has passed is blank.
 -- Assumes nothing.
-use Prim.Native.Nat.{_-_}
 use borrow.Author.Needs.{needs}
 use Rattle.values.specs.Trim.{Cut, trims}
 use Rattle.values.proofs.trim.Statement.{statement}
