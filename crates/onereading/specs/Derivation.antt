@@ -8,7 +8,7 @@ use lib.ListN.{length, take, drop, length-append}
 use lib.Seq.{take-at, drop-at}
 use Rattle.reader.specs.Machine.{gave, run}
 use Rattle.reader.specs.Answer.{got}
-use Rattle.rules.specs.Rules.{Rules, default}
+use Rattle.rules.specs.Rules.{default}
 use Rattle.grammar.specs.Fields.{Field}
 use Rattle.grammar.specs.Message.{Version, HTTP-version, one-zero, one-one, RequestLine, request-line, request-head, StatusLine, status-line, response-head, header-block}
 use Rattle.grammar.specs.Message as grammar
@@ -23,7 +23,6 @@ use Rattle.statusline.specs.declared.StatusLine as told-status
 use Rattle.heads.specs.Head.{Heads, Known}
 use Rattle.heads.specs.Calls.{request, response}
 use Rattle.chunks.specs.Chunk.{digits, chunkStep}
-use Rattle.agreement.specs.Block.{ends-long}
 use Rattle.agreement.specs.Fields.{fieldsOf}
 use Rattle.agreement.specs.Known.{Holds, Counts, RequestSays, StatusSays}
 use Rattle.agreement.specs.Exactly.{Exactly}
@@ -39,7 +38,7 @@ same-start : (v s w t : List ℕ) → v ++ s ≡ w ++ t → length v ≡ length 
 same-start v s w t e l = sym (take-at v s (length v) refl) ∙ ap (take (length v)) e ∙ take-at w t (length v) (sym l)
 
 -- and what is behind them
-same-rest : (v s w t : List ℕ) → v ++ s ≡ w ++ t → v ≡ w → s ≡ t
+pub same-rest : (v s w t : List ℕ) → v ++ s ≡ w ++ t → v ≡ w → s ≡ t
 same-rest v s w t e h = sym (drop-at v s (length v) refl) ∙ ap (drop (length v)) e ∙ drop-at w t (length v) (ap length (sym h))
 
 module _ {L K : Type 0} {Head : List ℕ → L → List Field → Type 0} {Says : List ℕ → K → L → Type 0} (read : ℕ → List ℕ → Heads K) (X : (n : ℕ) → Exactly Head Says n (read n))
@@ -67,10 +66,10 @@ version-one one-zero = refl
 version-one one-one = refl
 version-one (grammar.HTTP-version.other t a b) = let n : _≡_ {A = ℕ} 0 1 = cc in absurd (omega arith)
 
-request-one : {w : List ℕ} {l : RequestLine} {fs : List Field} → request-head default w l fs → l .version .major ≡ 1
+pub request-one : {w : List ℕ} {l : RequestLine} {fs : List Field} → request-head default w l fs → l .version .major ≡ 1
 request-one (grammar.head.message e (grammar.request-line.line m t v) c b) = version-one v
 
-response-one : {w : List ℕ} {l : StatusLine} {fs : List Field} → response-head default w l fs → l .version .major ≡ 1
+pub response-one : {w : List ℕ} {l : StatusLine} {fs : List Field} → response-head default w l fs → l .version .major ≡ 1
 response-one (grammar.head.message e (grammar.status-line.reason v c x) d b) = version-one v
 response-one (grammar.head.message e (grammar.status-line.no-reason v c) d b) = version-one v
 response-one (grammar.head.message e (grammar.status-line.code-ends t v c) d b) = version-one v
@@ -108,34 +107,3 @@ one-chunk v s w t {m} {n} e h i =
     let u : gave m (length v) ≡ gave n (length w) = sym (chunk-read h s) ∙ ap (run (chunkStep default) (digits 0 0) 0) e ∙ chunk-read i t in
     let l : length v ≡ length w = cc in
     (same-start v s w t e l, cc)
-
--- heads one behind another, each with what it says
-pub data Row {L : Type 0} (Head : List ℕ → L → List Field → Type 0) : List ℕ → List (L × List Field) → Type 0 where
-  none : Row Head [] []
-  more : {w v : List ℕ} {l : L} {fs : List Field} {rest : List (L × List Field)} → Head w l fs → Row Head v rest → Row Head (w ++ v) ((l, fs) ∷ rest)
-
--- no head is empty
-block-long : {r : Rules} {w : List ℕ} {fs : List Field} → header-block r w fs → 1 ≤ length w
-block-long (grammar.header-block.end e) = ends-long e
-block-long (grammar.header-block.field {w = w} {e = e} {b = b} f d k) = omega (arith, length-append (w ++ e) b, block-long k)
-
-head-long : {r : Rules} {L : Type 0} {A : List ℕ → L → Type 0} {w : List ℕ} {l : L} {fs : List Field} → grammar.head r A w l fs → 1 ≤ length w
-head-long (grammar.head.message {e = e} {w = w} {c = c} {b = b} x l d k) = omega (arith, length-append (e ++ w ++ c) b, block-long k)
-
-module _ {L : Type 0} {Head : List ℕ → L → List Field → Type 0} (long : (w : List ℕ) (l : L) (fs : List Field) → Head w l fs → 1 ≤ length w)
-    (one : (v s w t : List ℕ) (l m : L) (fs gs : List Field) → v ++ s ≡ w ++ t → Head v l fs → Head w m gs → (v ≡ w) × (l ≡ m) × (fs ≡ gs)) where
-  -- the same bytes are no two rows of heads
-  one-row : {v w : List ℕ} {hs gs : List (L × List Field)} → Row Head v hs → Row Head w gs → v ≡ w → hs ≡ gs
-  one-row none none e = refl
-  one-row none (more {w = w} {v = v} {l = l} {fs = fs} h k) e = absurd (omega (arith, ap length e, length-append w v, long w l fs h))
-  one-row (more {w = w} {v = v} {l = l} {fs = fs} h k) none e = absurd (omega (arith, ap length e, length-append w v, long w l fs h))
-  one-row (more {w = w} {v = v} {l = l} {fs = fs} {rest = hs} h k) (more {w = w′} {v = v′} {l = l′} {fs = fs′} h′ k′) e =
-      let u = one w v w′ v′ l l′ fs fs′ e h h′ in
-      let r : v ≡ v′ = same-rest w v w′ v′ e (u .0) in
-      ap (λ y. (y, fs) ∷ hs) (u .1) ∙ ap (λ y. (l′, y) ∷ hs) (u .2) ∙ ap (λ y. (l′, fs′) ∷ y) (one-row k k′ r)
-
-pub one-row-of-requests : {v w : List ℕ} {hs gs : List (RequestLine × List Field)} → Row (request-head default) v hs → Row (request-head default) w gs → v ≡ w → hs ≡ gs
-one-row-of-requests = one-row (λ w l fs. head-long) (λ v s w t l m fs gs. one-request v s w t)
-
-pub one-row-of-responses : {v w : List ℕ} {hs gs : List (StatusLine × List Field)} → Row (response-head default) v hs → Row (response-head default) w gs → v ≡ w → hs ≡ gs
-one-row-of-responses = one-row (λ w l fs. head-long) (λ v s w t l m fs gs. one-response v s w t)

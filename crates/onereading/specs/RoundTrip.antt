@@ -1,40 +1,211 @@
--- What a call read, written in plain form and read again, gives the same fields back, whatever follows it.
+-- What was read can be written; a call on what was written is complete at its end and gives the same fields back; and written again
+-- these are the same bytes.
 -- Assumes nothing.
-use Prim.Native.Nat.{ℕ, _/_, _≤_}
-use mathlib.Core.Path.{_≡_, refl}
+use Prim.Native.Nat.{ℕ, zero, suc, _/_, _≤_}
+use native.Mathlib.Omega.{arith}
+use mathlib.Core.Path.{_≡_, refl, sym, ap, subst, _∙_}
 use mathlib.Core.List.{List, _++_}
-use lib.ListN.{length}
-use Rattle.rules.specs.Rules.{default}
-use Rattle.grammar.specs.Message.{request-head, response-head}
+use mathlib.Core.Bool.{false≢true}
+use lib.ListN.{length, drop}
+use Rattle.rules.specs.Rules.{Rules, strict, default}
+use Rattle.grammar.specs.Fields.{Field}
+use Rattle.grammar.specs.Message.{Version, HTTP-version, one-zero, one-one, request-target, request-head, status-code, response-head, header-block}
+use Rattle.grammar.specs.Message as grammar
 use Rattle.parts.specs.declared.Passed.{Passed}
 use Rattle.parts.specs.declared.Passed.the-variants.{At}
+use Rattle.startline.specs.declared.KnownPiece.{KnownPiece}
+use Rattle.startline.specs.declared.KnownPiece.the-variants as pieces
+use Rattle.startline.specs.declared.KnownNumber.{KnownNumber}
+use Rattle.startline.specs.declared.KnownNumber.the-variants as numbers
 use Rattle.requestline.specs.declared.RequestLine.{RequestLine}
 use Rattle.statusline.specs.declared.StatusLine.{StatusLine}
-use Rattle.agreement.specs.Known.{RequestSays, StatusSays, RequestInside, StatusInside, fieldsIn}
+use Rattle.heads.specs.declared.RequestHead.{RequestHead}
+use Rattle.heads.specs.declared.ResponseHead.{ResponseHead}
+use Rattle.blocks.specs.declared.Block.{Block}
+use Rattle.agreement.specs.Known.{Holds, Counts, RequestSays, StatusSays, Inside, RequestInside, StatusInside, fieldsIn}
 use Rattle.agreement.specs.Promises.{HeadPromise, block-alone, says-nothing, lies-nowhere}
-use Rattle.plain.specs.Plain.{plain-request, plain-response, plain-fields}
-use Rattle.plain.specs.Derived.{plain-request-derived, plain-response-derived, plain-block}
+use Rattle.plain.specs.Plain.{plain-code, plain-request, plain-response, plain-fields}
+use Rattle.plain.specs.Derived.{plain-block, plain-request-derived, plain-request-strict, plain-response-derived, plain-response-strict}
+use Rattle.places.specs.Lies.{bytesOf, numberOf, one-point, requestOf, statusOf, Complete, Lies, AtMost, RequestLies, ResponseLies, BlockLies}
+use Rattle.writer.specs.declared.Plain.{Plain}
+use Rattle.writer.specs.declared.Plain.the-variants.{Written}
+use Rattle.writer.specs.Promise.{PlainPromise, was-written}
+use Rattle.onereading.specs.Derivation.{request-one, response-one}
 
--- the first call is complete at q; the second, with primes, reads the plain form of what it found, and t behind it
-module _ {s old : List ℕ} {end : Passed} {count : ℕ} {new : List ℕ} {q : ℕ} (e : end ≡ At q) (t : List ℕ) {old′ : List ℕ} {end′ : Passed} {count′ : ℕ} {new′ : List ℕ} (room : length (fieldsIn s count new) ≤ length old′ / 4) where
-  pub request-again : {line line′ : RequestLine} (P : HeadPromise (request-head default) RequestSays RequestInside s old end line count new) →
-      let w : List ℕ = plain-request (P .complete q e .said) (fieldsIn s count new) in
-      HeadPromise (request-head default) RequestSays RequestInside (w ++ t) old′ end′ line′ count′ new′ → (end′ ≡ At (length w)) × RequestSays (w ++ t) line′ (P .complete q e .said) × (fieldsIn (w ++ t) count′ new′ ≡ fieldsIn s count new)
-  request-again P Q =
-      let H = P .complete q e in
-      Q .accepts (plain-request (H .said) (fieldsIn s count new)) t (H .said) (fieldsIn s count new) refl (plain-request-derived (H .head)) room
+fields-counted : (z : List ℕ) (count : ℕ) (slots : List ℕ) → length (fieldsIn z count slots) ≡ count
+fields-counted z zero slots = refl
+fields-counted z (suc count) slots = ap suc (fields-counted z count (drop 4 slots))
 
-  pub response-again : {line line′ : StatusLine} (P : HeadPromise (response-head default) StatusSays StatusInside s old end line count new) →
-      let w : List ℕ = plain-response (P .complete q e .said) (fieldsIn s count new) in
-      HeadPromise (response-head default) StatusSays StatusInside (w ++ t) old′ end′ line′ count′ new′ → (end′ ≡ At (length w)) × StatusSays (w ++ t) line′ (P .complete q e .said) × (fieldsIn (w ++ t) count′ new′ ≡ fieldsIn s count new)
-  response-again P Q =
-      let H = P .complete q e in
-      Q .accepts (plain-response (H .said) (fieldsIn s count new)) t (H .said) (fieldsIn s count new) refl (plain-response-derived (H .head)) room
+-- a kind of head: how a call tells its line, what is told, and the plain form of it
+module _ {L K : Type 0} {Head : List ℕ → L → List Field → Type 0} {Says : List ℕ → K → L → Type 0} {In : ℕ → K → Type 0} (told : List ℕ → K → L) (plain : L → List Field → List ℕ)
+    (told-said : (z : List ℕ) (k : K) (w : List ℕ) (l : L) (fs : List Field) → Head w l fs → Says z k l → told z k ≡ l) (derived : (w : List ℕ) (l : L) (fs : List Field) → Head w l fs → Head (plain l fs) l fs) where
+  -- a call is complete
+  module _ {s old : List ℕ} {end : Passed} {line : K} {count : ℕ} {new : List ℕ} (P : HeadPromise Head Says In s old end line count new) {q : ℕ} (e : end ≡ At q) where
+    abbrev form : List ℕ
+    form = plain (told s line) (fieldsIn s count new)
 
-  pub headers-again : HeadPromise block-alone says-nothing lies-nowhere s old end tt count new →
-      let w : List ℕ = plain-fields (fieldsIn s count new) in
-      HeadPromise block-alone says-nothing lies-nowhere (w ++ t) old′ end′ tt count′ new′ → (end′ ≡ At (length w)) × (fieldsIn (w ++ t) count′ new′ ≡ fieldsIn s count new)
-  headers-again P Q =
+    said : told s line ≡ P .complete q e .said
+    said = let H = P .complete q e in told-said s line (H .bytes) (H .said) (fieldsIn s count new) (H .head) (H .says)
+
+    form-derived : Head form (told s line) (fieldsIn s count new)
+    form-derived =
+        let H = P .complete q e in
+        subst (λ y. Head (plain y (fieldsIn s count new)) y (fieldsIn s count new)) (sym said) (derived (H .bytes) (H .said) (fieldsIn s count new) (H .head))
+
+    -- its plain form is written over out, and read by a call with slots enough
+    back : {Fit : Type 0} {out : List ℕ} {r : Plain} {out′ : List ℕ} {n : ℕ} → PlainPromise Fit form out r out′ → r ≡ Written n → {old′ : List ℕ} {end′ : Passed} {line′ : K} {count′ : ℕ} {new′ : List ℕ} → HeadPromise Head Says In out′ old′ end′ line′ count′ new′ → count ≤ length old′ / 4 →
+        (end′ ≡ At n) × (told out′ line′ ≡ told s line) × (fieldsIn out′ count′ new′ ≡ fieldsIn s count new)
+    back {out = out} {out′ = out′} {n = n} W w {line′ = line′} Q room =
+        let x = was-written W w in
+        let A = Q .accepts form (drop n out) (told s line) (fieldsIn s count new) (x .3) form-derived (omega (arith, room, fields-counted s count new)) in
+        (A .0 ∙ ap At (sym (x .1)), told-said out′ line′ form (told s line) (fieldsIn s count new) form-derived (A .1), A .2)
+
+-- what a call said in places is what the writer finds there
+bytes-held : (z : List ℕ) (a : KnownPiece) {w : List ℕ} → Holds z a w → bytesOf z a ≡ w
+bytes-held z (pieces.Is a) h = h
+bytes-held z pieces.NotYet h = absurd h
+
+number-counted : (a : KnownNumber) {n : ℕ} → Counts a n → numberOf a ≡ n
+number-counted (numbers.Is a) h = h
+number-counted numbers.NotYet h = absurd h
+
+piece-lies : (z : List ℕ) (a : KnownPiece) (w : List ℕ) → Holds z a w → Inside (length z) a → Lies z a
+piece-lies z (pieces.Is a) w h i = Lies.known a i
+piece-lies z pieces.NotYet w h i = absurd h
+
+number-most : (m : ℕ) (a : KnownNumber) {n : ℕ} → Counts a n → n ≤ m → AtMost m a
+number-most m (numbers.Is a) h l = AtMost.known a (omega (arith, h, l))
+number-most m numbers.NotYet h l = absurd h
+
+complete-at : {e : Passed} {q : ℕ} → e ≡ At q → Complete e
+complete-at {q = q} h = subst Complete (sym h) (Complete.at q)
+
+-- requests: a call's promise, and the plain form of what it read
+abbrev pub RequestPromise : List ℕ → List ℕ → RequestHead → List ℕ → Type 0
+RequestPromise s old head new = HeadPromise (request-head default) RequestSays RequestInside s old (head .end) (head .line) (head .count) new
+
+abbrev pub request-form : List ℕ → RequestHead → List ℕ → List ℕ
+request-form s head slots = plain-request (requestOf s (head .line)) (fieldsIn s (head .count) slots)
+
+minor-digit : {w : List ℕ} {v : Version} → HTTP-version default w v → v .minor ≤ 9
+minor-digit one-zero = omega arith
+minor-digit one-one = omega arith
+minor-digit (grammar.HTTP-version.other t a b) = absurd (false≢true (sym t))
+
+request-digit : {w : List ℕ} {l : grammar.RequestLine} {fs : List Field} → request-head default w l fs → l .version .minor ≤ 9
+request-digit (grammar.head.message e (grammar.request-line.line m t v) c b) = minor-digit v
+
+version-is : (n : ℕ) (v : Version) → v .major ≡ 1 → n ≡ v .minor → one-point n ≡ v
+version-is n v h e = ap (λ y. record { major = y; minor = n }) (sym h) ∙ ap (λ y. record { major = v .major; minor = y }) e
+
+request-told : (z : List ℕ) (k : RequestLine) (w : List ℕ) (l : grammar.RequestLine) (fs : List Field) → request-head default w l fs → RequestSays z k l → requestOf z k ≡ l
+request-told z k w l fs h a =
+    ap (λ y. record { method = y; target = bytesOf z (k .target); version = one-point (numberOf (k .version)) }) (bytes-held z (k .method) (a .method))
+    ∙ ap (λ y. record { method = l .method; target = y; version = one-point (numberOf (k .version)) }) (bytes-held z (k .target) (a .target))
+    ∙ ap (λ y. record { method = l .method; target = l .target; version = y }) (version-is (numberOf (k .version)) (l .version) (request-one h) (number-counted (k .version) (a .version)))
+
+module _ {s old : List ℕ} {head : RequestHead} {new : List ℕ} (P : RequestPromise s old head new) {q : ℕ} (e : head .end ≡ At q) where
+  -- every complete answer can be written
+  pub request-writable : RequestLies s head new
+  request-writable =
       let H = P .complete q e in
-      let A = Q .accepts (plain-fields (fieldsIn s count new)) t tt (fieldsIn s count new) refl (plain-block (H .head)) room in
-      (A .0, A .2)
+      record {
+        complete = complete-at e;
+        method = piece-lies s (head .line .method) (H .said .method) (H .says .method) (P .inside .0 .method);
+        target = piece-lies s (head .line .target) (H .said .target) (H .says .target) (P .inside .0 .target);
+        version = number-most 9 (head .line .version) (H .says .version) (request-digit (H .head));
+        headers = record { room = omega (arith, P .within .0, P .within .1); inside = P .inside .1 };
+      }
+
+  -- what is written is a head under default with the same fields, and under strict if the target is strict
+  pub request-plain : request-head default (request-form s head new) (requestOf s (head .line)) (fieldsIn s (head .count) new)
+  request-plain = form-derived requestOf plain-request request-told (λ w l fs. plain-request-derived refl) P e
+
+  pub request-plain-strict : request-target strict (requestOf s (head .line) .target) → request-head strict (request-form s head new) (requestOf s (head .line)) (fieldsIn s (head .count) new)
+  request-plain-strict t = plain-request-strict refl request-plain t
+
+  module _ {Fit : Type 0} {out : List ℕ} {r : Plain} {out′ : List ℕ} {n : ℕ} (W : PlainPromise Fit (request-form s head new) out r out′) (w : r ≡ Written n) {old′ : List ℕ} {head′ : RequestHead} {new′ : List ℕ} (Q : RequestPromise out′ old′ head′ new′) (room : head .count ≤ length old′ / 4) where
+    -- a call on the bytes written, and whatever stands behind them, is complete at their end and gives the same fields back
+    pub request-back : (head′ .end ≡ At n) × (requestOf out′ (head′ .line) ≡ requestOf s (head .line)) × (fieldsIn out′ (head′ .count) new′ ≡ fieldsIn s (head .count) new)
+    request-back = back requestOf plain-request request-told (λ w l fs. plain-request-derived refl) P e W w Q room
+
+    -- the plain form of what was read back is the same bytes
+    pub request-again : request-form out′ head′ new′ ≡ request-form s head new
+    request-again = let b = request-back in ap (λ y. plain-request y (fieldsIn out′ (head′ .count) new′)) (b .1) ∙ ap (λ y. plain-request (requestOf s (head .line)) y) (b .2)
+
+-- responses
+abbrev pub ResponsePromise : List ℕ → List ℕ → ResponseHead → List ℕ → Type 0
+ResponsePromise s old head new = HeadPromise (response-head default) StatusSays StatusInside s old (head .end) (head .line) (head .count) new
+
+abbrev pub response-form : List ℕ → ResponseHead → List ℕ → List ℕ
+response-form s head slots = plain-response (statusOf s (head .line)) (fieldsIn s (head .count) slots)
+
+three-digits : {w : List ℕ} {n : ℕ} → status-code default w n → n ≤ 999
+three-digits (grammar.status-code.class x y z) = omega (arith, x .high, y .high, z .high)
+three-digits (grammar.status-code.any t x y z) = omega (arith, x .high, y .high, z .high)
+
+response-digits : {w : List ℕ} {l : grammar.StatusLine} {fs : List Field} → response-head default w l fs → (l .version .minor ≤ 9) × (l .code ≤ 999)
+response-digits (grammar.head.message e (grammar.status-line.reason v c x) d b) = (minor-digit v, three-digits c)
+response-digits (grammar.head.message e (grammar.status-line.no-reason v c) d b) = (minor-digit v, three-digits c)
+response-digits (grammar.head.message e (grammar.status-line.code-ends t v c) d b) = (minor-digit v, three-digits c)
+
+status-told : (z : List ℕ) (k : StatusLine) (w : List ℕ) (l : grammar.StatusLine) (fs : List Field) → response-head default w l fs → StatusSays z k l → statusOf z k ≡ l
+status-told z k w l fs h a =
+    ap (λ y. record { version = y; code = numberOf (k .code); reason = bytesOf z (k .reason) }) (version-is (numberOf (k .version)) (l .version) (response-one h) (number-counted (k .version) (a .version)))
+    ∙ ap (λ y. record { version = l .version; code = y; reason = bytesOf z (k .reason) }) (number-counted (k .code) (a .code))
+    ∙ ap (λ y. record { version = l .version; code = l .code; reason = y }) (bytes-held z (k .reason) (a .reason))
+
+module _ {s old : List ℕ} {head : ResponseHead} {new : List ℕ} (P : ResponsePromise s old head new) {q : ℕ} (e : head .end ≡ At q) where
+  -- every complete answer can be written
+  pub response-writable : ResponseLies s head new
+  response-writable =
+      let H = P .complete q e in
+      let d = response-digits (H .head) in
+      record {
+        complete = complete-at e;
+        version = number-most 9 (head .line .version) (H .says .version) (d .0);
+        code = number-most 999 (head .line .code) (H .says .code) (d .1);
+        reason = piece-lies s (head .line .reason) (H .said .reason) (H .says .reason) (P .inside .0 .reason);
+        headers = record { room = omega (arith, P .within .0, P .within .1); inside = P .inside .1 };
+      }
+
+  -- what is written is a head under default with the same fields, and under strict if the code is strict
+  pub response-plain : response-head default (response-form s head new) (statusOf s (head .line)) (fieldsIn s (head .count) new)
+  response-plain = form-derived statusOf plain-response status-told (λ w l fs. plain-response-derived refl refl) P e
+
+  pub response-plain-strict : status-code strict (plain-code (statusOf s (head .line) .code)) (statusOf s (head .line) .code) → response-head strict (response-form s head new) (statusOf s (head .line)) (fieldsIn s (head .count) new)
+  response-plain-strict c = plain-response-strict refl response-plain c
+
+  module _ {Fit : Type 0} {out : List ℕ} {r : Plain} {out′ : List ℕ} {n : ℕ} (W : PlainPromise Fit (response-form s head new) out r out′) (w : r ≡ Written n) {old′ : List ℕ} {head′ : ResponseHead} {new′ : List ℕ} (Q : ResponsePromise out′ old′ head′ new′) (room : head .count ≤ length old′ / 4) where
+    -- a call on the bytes written, and whatever stands behind them, is complete at their end and gives the same fields back
+    pub response-back : (head′ .end ≡ At n) × (statusOf out′ (head′ .line) ≡ statusOf s (head .line)) × (fieldsIn out′ (head′ .count) new′ ≡ fieldsIn s (head .count) new)
+    response-back = back statusOf plain-response status-told (λ w l fs. plain-response-derived refl refl) P e W w Q room
+
+    -- the plain form of what was read back is the same bytes
+    pub response-again : response-form out′ head′ new′ ≡ response-form s head new
+    response-again = let b = response-back in ap (λ y. plain-response y (fieldsIn out′ (head′ .count) new′)) (b .1) ∙ ap (λ y. plain-response (statusOf s (head .line)) y) (b .2)
+
+-- headers alone
+abbrev pub BlockPromise : List ℕ → List ℕ → Block → List ℕ → Type 0
+BlockPromise s old block new = HeadPromise block-alone says-nothing lies-nowhere s old (block .end) tt (block .count) new
+
+abbrev pub block-form : List ℕ → Block → List ℕ → List ℕ
+block-form s block slots = plain-fields (fieldsIn s (block .count) slots)
+
+module _ {s old : List ℕ} {block : Block} {new : List ℕ} (P : BlockPromise s old block new) {q : ℕ} (e : block .end ≡ At q) where
+  -- every complete answer can be written
+  pub headers-writable : BlockLies s block new
+  headers-writable = record { complete = complete-at e; headers = record { room = omega (arith, P .within .0, P .within .1); inside = P .inside .1 } }
+
+  -- what is written is a block under strict with the same fields, and so under all rules
+  pub headers-plain : (rules : Rules) → header-block rules (block-form s block new) (fieldsIn s (block .count) new)
+  headers-plain rules = plain-block (P .complete q e .head)
+
+  module _ {Fit : Type 0} {out : List ℕ} {r : Plain} {out′ : List ℕ} {n : ℕ} (W : PlainPromise Fit (block-form s block new) out r out′) (w : r ≡ Written n) {old′ : List ℕ} {block′ : Block} {new′ : List ℕ} (Q : BlockPromise out′ old′ block′ new′) (room : block .count ≤ length old′ / 4) where
+    -- a call on the bytes written, and whatever stands behind them, is complete at their end and gives the same fields back
+    pub headers-back : (block′ .end ≡ At n) × (fieldsIn out′ (block′ .count) new′ ≡ fieldsIn s (block .count) new)
+    headers-back = let b = back (λ z k. k) (λ l fs. plain-fields fs) (λ z k w l fs h a. refl) (λ w l fs. plain-block) P e W w Q room in (b .0, b .2)
+
+    -- the plain form of what was read back is the same bytes
+    pub headers-again : block-form out′ block′ new′ ≡ block-form s block new
+    headers-again = ap plain-fields (headers-back .1)

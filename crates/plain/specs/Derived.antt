@@ -1,16 +1,16 @@
--- The plain form of every head is a head under default, with the same fields; under strict too, where the target and the code are strict.
+-- The plain form of a head is a head under the same rules, under default, and under strict where its parts are, with the same fields.
 -- Assumes nothing.
 use Prim.Native.Nat.{ℕ, _+_, _-_, _*_, _/_, _%_}
 use native.Mathlib.Omega.{arith}
 use mathlib.Core.Path.{_≡_, refl, sym, ap, subst, _∙_}
 use mathlib.Core.List.{List, [], _∷_, _++_, append-nil}
 use mathlib.Core.Bool.{true, false, false≢true}
-use Rattle.octets.specs.Grammar.{Range, DIGIT}
+use Rattle.octets.specs.Grammar.{Range, DIGIT, text}
 use Rattle.octets.specs.Grammar as bytes
 use Rattle.rules.specs.Rules.{Rules, strict, default}
-use Rattle.grammar.specs.Rows.{none, more}
+use Rattle.grammar.specs.Rows.{Some, none, more}
 use Rattle.grammar.specs.Fields.{Field}
-use Rattle.grammar.specs.Message.{space, colon, CRLF, crlf, Version, HTTP-version, one-zero, one-one, request-target, RequestLine, status-code, reason-phrase, StatusLine, status-line, header-block, request-head, response-head}
+use Rattle.grammar.specs.Message.{space, colon, CRLF, crlf, Version, HTTP-name, HTTP-version, one-zero, one-one, request-target, RequestLine, status-code, reason-phrase, StatusLine, status-line, header-block, request-head, response-head}
 use Rattle.grammar.specs.Message as grammar
 use Rattle.plain.specs.Plain.{plain-version, plain-code, plain-fields, plain-request, plain-response}
 
@@ -21,18 +21,44 @@ plain-block {s = s} (grammar.header-block.field {fs = fs} (grammar.field-line.li
     subst (λ y. header-block s (y ++ CRLF ++ plain-fields fs) (record { name = n; value = v } ∷ fs)) (append-nil (n ++ colon ++ space ++ v))
     (grammar.header-block.field (grammar.field-line.line h (more (bytes.blank.space refl) none) k none) crlf (plain-block b))
 
--- a version that is known
-known-version : {w : List ℕ} {v : Version} {s : Rules} → HTTP-version default w v → HTTP-version s (plain-version v) v
-known-version one-zero = one-zero
-known-version one-one = one-one
-known-version (grammar.HTTP-version.other t a b) = absurd (false≢true (sym t))
+digit-again : {a : ℕ} → DIGIT a → 0x30 + (a - 0x30) ≡ a
+digit-again h = omega (arith, h .low)
 
-pub plain-request-derived : {w : List ℕ} {l : RequestLine} {fs : List Field} → request-head default w l fs → request-head default (plain-request l fs) l fs
-plain-request-derived (grammar.head.message e (grammar.request-line.line m t v) c b) = grammar.head.message grammar.empty-lines.none (grammar.request-line.line m t (known-version v)) crlf (plain-block b)
+-- a version as it stands
+version-plain : {r : Rules} {w : List ℕ} {v : Version} → HTTP-version r w v → HTTP-version r (plain-version v) v
+version-plain one-zero = one-zero
+version-plain one-one = one-one
+version-plain {r} (grammar.HTTP-version.other {a = a} {b = b} t x y) =
+    subst (λ z. HTTP-version r z (record { major = a - 0x30; minor = b - 0x30 }))
+    (ap (λ z. HTTP-name ++ (0x2F ∷ z ∷ 0x2E ∷ b ∷ [])) (sym (digit-again x)) ∙ ap (λ z. HTTP-name ++ (0x2F ∷ (0x30 + (a - 0x30)) ∷ 0x2E ∷ z ∷ [])) (sym (digit-again y)))
+    (grammar.HTTP-version.other t x y)
 
--- under strict, if the target is
-pub plain-request-strict : {w : List ℕ} {l : RequestLine} {fs : List Field} → request-head default w l fs → request-target strict (l .target) → request-head strict (plain-request l fs) l fs
-plain-request-strict (grammar.head.message e (grammar.request-line.line m t v) c b) s = grammar.head.message grammar.empty-lines.none (grammar.request-line.line m s (known-version v)) crlf (plain-block b)
+-- 1.0 and 1.1 are versions under all rules
+version-known : {r s : Rules} {w : List ℕ} {v : Version} → r .known-versions ≡ true → HTTP-version r w v → HTTP-version s (plain-version v) v
+version-known k one-zero = one-zero
+version-known k one-one = one-one
+version-known k (grammar.HTTP-version.other t x y) = absurd (false≢true (sym t ∙ k))
+
+target-default : {r : Rules} {t : List ℕ} → request-target r t → request-target default t
+target-default (grammar.request-target.visible h) = grammar.request-target.visible h
+target-default (grammar.request-target.any t h u) = grammar.request-target.any refl h u
+
+-- from any rules to any others that take the target and the version
+request-under : {r s : Rules} {w : List ℕ} {l : RequestLine} {fs : List Field} → request-head r w l fs → (request-target r (l .target) → request-target s (l .target)) → ((v : List ℕ) → HTTP-version r v (l .version) → HTTP-version s (plain-version (l .version)) (l .version)) → request-head s (plain-request l fs) l fs
+request-under (grammar.head.message e (grammar.request-line.line {v = w} m t v) c b) f g = grammar.head.message grammar.empty-lines.none (grammar.request-line.line m (f t) (g w v)) crlf (plain-block b)
+
+module _ {r : Rules} {w : List ℕ} {l : RequestLine} {fs : List Field} where
+  -- under the rules of the head itself, whatever they are
+  pub plain-request-own : request-head r w l fs → request-head r (plain-request l fs) l fs
+  plain-request-own h = request-under h (λ t. t) (λ v. version-plain)
+
+  -- under default, if the version is 1.0 or 1.1
+  pub plain-request-derived : r .known-versions ≡ true → request-head r w l fs → request-head default (plain-request l fs) l fs
+  plain-request-derived k h = request-under h target-default (λ v. version-known k)
+
+  -- under strict, if the target is
+  pub plain-request-strict : r .known-versions ≡ true → request-head r w l fs → request-target strict (l .target) → request-head strict (plain-request l fs) l fs
+  plain-request-strict k h t = request-under h (λ _. t) (λ v. version-known k)
 
 -- three digits are those of their number
 module _ {a b c : ℕ} (x : DIGIT a) (y : DIGIT b) (z : DIGIT c) where
@@ -56,26 +82,37 @@ code-plain : {r : Rules} {c : List ℕ} {n : ℕ} → status-code r c n → stat
 code-plain {r} (grammar.status-code.class {a = a} {b = b} {c = c} x y z) = subst (λ w. status-code r w (number (wide x) y z)) (code-digits (wide x) y z) (grammar.status-code.class x y z)
 code-plain {r} (grammar.status-code.any {a = a} {b = b} {c = c} t x y z) = subst (λ w. status-code r w (number x y z)) (code-digits x y z) (grammar.status-code.any t x y z)
 
+code-default : {r : Rules} {w : List ℕ} {n : ℕ} → status-code r w n → status-code default (plain-code n) n
+code-default (grammar.status-code.class x y z) = code-plain (grammar.status-code.class x y z)
+code-default (grammar.status-code.any t x y z) = code-plain (grammar.status-code.any refl x y z)
+
 -- no reason, and the space before it
-nothing : {v : List ℕ} {n : Version} {k : ℕ} {s : Rules} → HTTP-version default v n → status-code s (plain-code k) k → status-line s (plain-version n ++ space ++ plain-code k ++ space ++ []) (record { version = n; code = k; reason = [] })
-nothing {n = n} {k = k} {s = s} v d = subst (λ w. status-line s w (record { version = n; code = k; reason = [] })) (sym (append-nil (plain-version n ++ space ++ plain-code k ++ space))) (grammar.status-line.no-reason (known-version v) d)
+nothing : {n : Version} {k : ℕ} {s : Rules} → HTTP-version s (plain-version n) n → status-code s (plain-code k) k → status-line s (plain-version n ++ space ++ plain-code k ++ space ++ []) (record { version = n; code = k; reason = [] })
+nothing {n} {k} {s} v d = subst (λ w. status-line s w (record { version = n; code = k; reason = [] })) (sym (append-nil (plain-version n ++ space ++ plain-code k ++ space))) (grammar.status-line.no-reason v d)
 
--- a reason that is given is plain text, or there is none
-status-plain : {w : List ℕ} {l : StatusLine} {s : Rules} → status-line default w l → status-code s (plain-code (l .code)) (l .code) → status-line s (plain-version (l .version) ++ space ++ plain-code (l .code) ++ space ++ l .reason) l
-status-plain (grammar.status-line.reason v c (grammar.reason-phrase.plain k)) d = grammar.status-line.reason (known-version v) d (grammar.reason-phrase.plain k)
-status-plain (grammar.status-line.reason v c (grammar.reason-phrase.whole t k)) d = absurd (false≢true (sym t))
-status-plain {l = l} {s = s} (grammar.status-line.reason v c (grammar.reason-phrase.emptied t k o u)) d = nothing v d
-status-plain (grammar.status-line.no-reason v c) d = nothing v d
-status-plain (grammar.status-line.code-ends t v c) d = nothing v d
+-- the parts of a status line, under rules that take them
+status-plain : {r s : Rules} {w : List ℕ} {l : StatusLine} → status-line r w l → ((v : List ℕ) → HTTP-version r v (l .version) → HTTP-version s (plain-version (l .version)) (l .version)) → ((c : List ℕ) → status-code r c (l .code) → status-code s (plain-code (l .code)) (l .code)) →
+    (r .obs-reason ≡ false → Some text (l .reason) → reason-phrase s (l .reason) (l .reason)) → status-line s (plain-version (l .version) ++ space ++ plain-code (l .code) ++ space ++ l .reason) l
+status-plain (grammar.status-line.reason {v = a} {c = b} v c (grammar.reason-phrase.plain k)) f g i = grammar.status-line.reason (f a v) (g b c) (grammar.reason-phrase.plain k)
+status-plain (grammar.status-line.reason {v = a} {c = b} v c (grammar.reason-phrase.whole t k)) f g i = grammar.status-line.reason (f a v) (g b c) (i t k)
+status-plain (grammar.status-line.reason {v = a} {c = b} v c (grammar.reason-phrase.emptied t k o u)) f g i = nothing (f a v) (g b c)
+status-plain (grammar.status-line.no-reason {v = a} {c = b} v c) f g i = nothing (f a v) (g b c)
+status-plain (grammar.status-line.code-ends {v = a} {c = b} t v c) f g i = nothing (f a v) (g b c)
 
-code-of : {w : List ℕ} {l : StatusLine} → status-line default w l → status-code default (plain-code (l .code)) (l .code)
-code-of (grammar.status-line.reason v c x) = code-plain c
-code-of (grammar.status-line.no-reason v c) = code-plain c
-code-of (grammar.status-line.code-ends t v c) = code-plain c
+-- from any rules to any others that take the line's parts
+response-under : {r s : Rules} {w : List ℕ} {l : StatusLine} {fs : List Field} → response-head r w l fs → ((v : List ℕ) → HTTP-version r v (l .version) → HTTP-version s (plain-version (l .version)) (l .version)) →
+    ((c : List ℕ) → status-code r c (l .code) → status-code s (plain-code (l .code)) (l .code)) → (r .obs-reason ≡ false → Some text (l .reason) → reason-phrase s (l .reason) (l .reason)) → response-head s (plain-response l fs) l fs
+response-under (grammar.head.message e h c b) f g i = grammar.head.message grammar.empty-lines.none (status-plain h f g i) crlf (plain-block b)
 
-pub plain-response-derived : {w : List ℕ} {l : StatusLine} {fs : List Field} → response-head default w l fs → response-head default (plain-response l fs) l fs
-plain-response-derived (grammar.head.message e l c b) = grammar.head.message grammar.empty-lines.none (status-plain l (code-of l)) crlf (plain-block b)
+module _ {r : Rules} {w : List ℕ} {l : StatusLine} {fs : List Field} where
+  -- under the rules of the head itself, whatever they are
+  pub plain-response-own : response-head r w l fs → response-head r (plain-response l fs) l fs
+  plain-response-own h = response-under h (λ v. version-plain) (λ c. code-plain) grammar.reason-phrase.whole
 
--- under strict, if the code is
-pub plain-response-strict : {w : List ℕ} {l : StatusLine} {fs : List Field} → response-head default w l fs → status-code strict (plain-code (l .code)) (l .code) → response-head strict (plain-response l fs) l fs
-plain-response-strict (grammar.head.message e l c b) d = grammar.head.message grammar.empty-lines.none (status-plain l d) crlf (plain-block b)
+  -- under default, if the version is 1.0 or 1.1, and a reason with obs-text was given as empty
+  pub plain-response-derived : r .known-versions ≡ true → r .obs-reason ≡ true → response-head r w l fs → response-head default (plain-response l fs) l fs
+  plain-response-derived k o h = response-under h (λ v. version-known k) (λ c. code-default) (λ t x. absurd (false≢true (sym t ∙ o)))
+
+  -- under strict, if the code is
+  pub plain-response-strict : r .known-versions ≡ true → response-head r w l fs → status-code strict (plain-code (l .code)) (l .code) → response-head strict (plain-response l fs) l fs
+  plain-response-strict k h d = response-under h (λ v. version-known k) (λ _ _. d) (λ t x. grammar.reason-phrase.whole refl x)

@@ -13,13 +13,23 @@ plain-version v = HTTP-name ++ (0x2F ∷ (0x30 + v .major) ∷ 0x2E ∷ (0x30 + 
 abbrev pub plain-code : ℕ → List ℕ
 plain-code n = (0x30 + n / 100) ∷ (0x30 + n / 10 % 10) ∷ (0x30 + n % 10) ∷ []
 
--- a name, a colon, one space, a value, CR LF; and an empty line behind the last
+-- a name, a colon, one space, a value, CR LF
+abbrev pub plain-field : Field → List ℕ
+plain-field f = f .name ++ colon ++ space ++ f .value ++ CRLF
+
+-- and an empty line behind the last
 abbrev pub plain-fields : List Field → List ℕ
 plain-fields [] = CRLF
-plain-fields (f ∷ fs) = f .name ++ colon ++ space ++ f .value ++ CRLF ++ plain-fields fs
+plain-fields (f ∷ fs) = plain-field f ++ plain-fields fs
+
+abbrev pub plain-request-line : RequestLine → List ℕ
+plain-request-line l = l .method ++ space ++ l .target ++ space ++ plain-version (l .version) ++ CRLF
+
+abbrev pub plain-status-line : StatusLine → List ℕ
+plain-status-line l = plain-version (l .version) ++ space ++ plain-code (l .code) ++ space ++ l .reason ++ CRLF
 
 abbrev pub plain-request : RequestLine → List Field → List ℕ
-plain-request l fs = l .method ++ space ++ l .target ++ space ++ plain-version (l .version) ++ CRLF ++ plain-fields fs
+plain-request l fs = plain-request-line l ++ plain-fields fs
 
 abbrev pub plain-response : StatusLine → List Field → List ℕ
-plain-response l fs = plain-version (l .version) ++ space ++ plain-code (l .code) ++ space ++ l .reason ++ CRLF ++ plain-fields fs
+plain-response l fs = plain-status-line l ++ plain-fields fs

@@ -1,0 +1,17 @@
+// Texts put one behind another into a lent slice, as far as there is room, and how long they are in all.
+ghost use Rattle.output.specs.Put.{Adds};
+
+// Puts a text at a position if it ends within `out`. Answers the position behind it, and usize::MAX where there is no such number.
+pub fn put(out: &mut [u8], at: usize, text: &[u8]) -> usize
+    ensures { λ r. ⌜ Adds (now (text .entry)) at (now (out .entry)) r (now (out .exit)) ⌝ }
+{
+    if usize::MAX - at < text.len() {
+        return usize::MAX;
+    }
+    let end = at + text.len();
+    if out.len() < end {
+        return end;
+    }
+    bytes::copy(text, &mut out[at..end]);
+    end
+}

@@ -1,0 +1,16 @@
+-- `places::number` meets its contract: a number is known and small enough, or it is not.
+-- Assumes nothing.
+use borrow.Author.Needs.{needs}
+use Rattle.places.specs.Checks.{checks}
+use Rattle.places.proofs.number.Statement.{statement}
+use Rattle.places.proofs.number.Tie as tie
+
+pub number-spec : {M : Type 1} → statement M
+number-spec =
+    tie.close
+    (tie.spec
+    (λ c. search needs)
+    (λ c. search (needs, checks))
+    (λ c. search needs)
+    (λ c. search (needs, checks))
+    (λ c. search (needs, checks)))

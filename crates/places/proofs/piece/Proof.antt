@@ -1,0 +1,16 @@
+-- `places::piece` meets its contract: a piece is known and lies in the input, or it does not.
+-- Assumes nothing.
+use borrow.Author.Needs.{needs}
+use Rattle.places.specs.Checks.{checks}
+use Rattle.places.proofs.piece.Statement.{statement}
+use Rattle.places.proofs.piece.Tie as tie
+
+pub piece-spec : {M : Type 1} → statement M
+piece-spec =
+    tie.close
+    (tie.spec
+    (λ c. search needs)
+    (λ c κs. search needs)
+    (λ c. search needs)
+    (λ c. search (needs, checks))
+    (λ c. search (needs, checks)))

@@ -1,0 +1,21 @@
+-- `places::response` meets its contract: each part is looked at, and the first that is wrong decides.
+-- Assumes nothing.
+use borrow.Author.Needs.{needs}
+use Rattle.places.specs.Checks.{lies}
+use Rattle.places.proofs.response.Statement.{statement}
+use Rattle.places.proofs.response.Tie as tie
+
+pub response-spec : {M : Type 1} → statement M
+response-spec =
+    tie.close
+    (tie.spec
+    (λ c κs. search needs)
+    (λ c. search (needs, lies))
+    (λ c κs. search needs)
+    (λ c. search (needs, lies))
+    (λ c κs. search needs)
+    (λ c. search (needs, lies))
+    (λ c κs. search needs)
+    (λ c. search (needs, lies))
+    (λ c κs. search needs)
+    (λ c. search (needs, lies)))

@@ -1,0 +1,160 @@
+-- Reading a row: what the next head comes to, and what is kept from one to the next.
+-- Assumes nothing.
+use Prim.Native.Nat.{ℕ, zero, suc, _+_, _-_, _/_, _≤_, _<_}
+use native.Mathlib.Omega.{arith}
+use mathlib.Core.Path.{_≡_, refl, sym, ap, subst, _∙_}
+use mathlib.Core.List.{List, [], _∷_, _++_, append-assoc, append-nil}
+use lib.ListN.{length, take, drop, getD, set, length-append, length-drop, length-set}
+use lib.Seq.{take-all, drop-at, drop-cons, set-at}
+use Rattle.rules.specs.Rules.{Rules, default}
+use Rattle.grammar.specs.Fields.{Field}
+use Rattle.grammar.specs.Message.{header-block, request-head, response-head}
+use Rattle.grammar.specs.Message as grammar
+use Rattle.parts.specs.declared.Error.{Error}
+use Rattle.parts.specs.declared.Passed.{Passed}
+use Rattle.parts.specs.declared.Passed.the-variants.{At, More, Bad}
+use Rattle.requestline.specs.declared.RequestLine.{RequestLine}
+use Rattle.statusline.specs.declared.StatusLine.{StatusLine}
+use Rattle.agreement.specs.Block.{ends-long}
+use Rattle.agreement.specs.Known.{RequestSays, StatusSays, RequestInside, StatusInside}
+use Rattle.agreement.specs.Promises.{HeadPromise}
+use Rattle.rows.specs.declared.Heads.{Heads}
+use Rattle.rows.specs.declared.Stop.the-variants as stops
+use Rattle.rows.specs.Row.{Row, none, more, Stopped, all-read, full, unfinished, wrong, RowPromise}
+
+-- no head is empty
+block-long : {r : Rules} {w : List ℕ} {fs : List Field} → header-block r w fs → 1 ≤ length w
+block-long (grammar.header-block.end e) = ends-long e
+block-long (grammar.header-block.field {w = w} {e = e} {b = b} f d k) = omega (arith, length-append (w ++ e) b, block-long k)
+
+pub head-long : {r : Rules} {L : Type 0} {A : List ℕ → L → Type 0} {w : List ℕ} {l : L} {fs : List Field} → grammar.head r A w l fs → 1 ≤ length w
+head-long (grammar.head.message {e = e} {w = w} {c = c} {b = b} x l d k) = omega (arith, length-append (e ++ w ++ c) b, block-long k)
+
+-- what a call comes to on the bytes z, with n slots
+pub data Next {L : Type 0} (Head : List ℕ → L → List Field → Type 0) (n : ℕ) (z : List ℕ) : Passed → Type 0 where
+  read : {w : List ℕ} (t : List ℕ) {l : L} {fs : List Field} {q : ℕ} → z ≡ w ++ t → q ≡ length w → 1 ≤ length w → Head w l fs → Next Head n z (At q)
+  waits : ((w t : List ℕ) (l : L) (fs : List Field) → z ≡ w ++ t → Head w l fs → ⊥) → Next Head n z More
+  fails : {e : Error} → ((u w t : List ℕ) (l : L) (fs : List Field) → z ++ u ≡ w ++ t → Head w l fs → length fs ≤ n → ⊥) → Next Head n z (Bad e)
+
+module _ {L K : Type 0} {Head : List ℕ → L → List Field → Type 0} {Says : List ℕ → K → L → Type 0} {In : ℕ → K → Type 0} (long : (w : List ℕ) (l : L) (fs : List Field) → Head w l fs → 1 ≤ length w)
+    {z old : List ℕ} {line : K} {count : ℕ} {new : List ℕ} where
+  next : (end : Passed) → HeadPromise Head Says In z old end line count new → Next Head (length old / 4) z end
+  next (At q) P = let H = P .complete q refl in read (H .rest) (H .whole) (H .end) (long (H .bytes) (H .said) _ (H .head)) (H .head)
+  next More P = waits (P .incomplete refl)
+  next (Bad e) P = fails (P .error e refl)
+
+-- all that stands behind a position
+rest-of : (s : List ℕ) (at : ℕ) → take (length s - at) (drop at s) ≡ drop at s
+rest-of s at = take-all (length s - at) (drop at s) (omega (arith, length-drop at s))
+
+module _ (s : List ℕ) (at : ℕ) {old : List ℕ} {end : Passed} {count : ℕ} {new : List ℕ} where
+  pub next-request : {line : RequestLine} → HeadPromise (request-head default) RequestSays RequestInside (take (length s - at) (drop at s)) old end line count new → Next (request-head default) (length old / 4) (drop at s) end
+  next-request P = subst (λ z. Next (request-head default) (length old / 4) z end) (rest-of s at) (next (λ w l fs. head-long) end P)
+
+  pub next-response : {line : StatusLine} → HeadPromise (response-head default) StatusSays StatusInside (take (length s - at) (drop at s)) old end line count new → Next (response-head default) (length old / 4) (drop at s) end
+  next-response P = subst (λ z. Next (response-head default) (length old / 4) z end) (rest-of s at) (next (λ w l fs. head-long) end P)
+
+-- one head more behind a row
+row-more : {L : Type 0} {Head : List ℕ → L → List Field → Type 0} {at : ℕ} {v : List ℕ} {hs : List (L × List Field)} {es : List ℕ} → Row Head at v hs es → {w : List ℕ} {l : L} {fs : List Field} → Head w l fs → Row Head at (v ++ w) (hs ++ ((l, fs) ∷ [])) (es ++ ((at + length (v ++ w)) ∷ []))
+row-more {Head = Head} {at = at} none {w} {l} {fs} h = subst (λ y. Row Head at y ((l, fs) ∷ []) ((at + length w) ∷ [])) (append-nil w) (more h none)
+row-more {Head = Head} {at = at} (more {w = x} {v = v} {l = k} {fs = gs} {rest = rest} {ends = ends} g r) {w} {l} {fs} h =
+    let e : at + length x + length (v ++ w) ≡ at + length (x ++ v ++ w) = omega (arith, length-append x (v ++ w), ap length (append-assoc x v w)) in
+    subst (λ y. Row Head at y ((k, gs) ∷ (rest ++ ((l, fs) ∷ []))) ((at + length x) ∷ (ends ++ ((at + length (x ++ v ++ w)) ∷ [])))) (sym (append-assoc x v w))
+    (subst (λ y. Row Head at (x ++ (v ++ w)) ((k, gs) ∷ (rest ++ ((l, fs) ∷ []))) ((at + length x) ∷ (ends ++ (y ∷ [])))) e (more g (row-more r h)))
+
+-- the bytes before at are a row of heads, and their ends are in their places
+pub record Reading {L : Type 0} (Head : List ℕ → L → List Field → Type 0) (s old new : List ℕ) (at count : ℕ) : Type 0 where
+  pub bytes : List ℕ
+  pub rest : List ℕ
+  pub heads : List (L × List Field)
+  pub ends : List ℕ
+  pub whole : s ≡ bytes ++ rest
+  pub row : Row Head 0 bytes heads ends
+  pub place : at ≡ length bytes
+  pub counted : count ≡ length ends
+  pub kept : new ≡ ends ++ drop (length ends) old
+  pub size : length new ≡ length old
+  pub room : count ≤ length old
+
+pub reading-none : {L : Type 0} {Head : List ℕ → L → List Field → Type 0} {s old : List ℕ} → Reading Head s old old 0 0
+reading-none {s = s} = record { bytes = []; rest = s; heads = []; ends = []; whole = refl; row = none; place = refl; counted = refl; kept = refl; size = refl; room = omega arith }
+
+module _ {L : Type 0} {Head : List ℕ → L → List Field → Type 0} {s old new : List ℕ} {at count : ℕ} (c : Reading Head s old new at count) where
+  behind : drop at s ≡ c .rest
+  behind = ap (drop at) (c .whole) ∙ drop-at (c .bytes) (c .rest) at (sym (c .place))
+
+  left : length s ≡ at + length (c .rest)
+  left = omega (arith, ap length (c .whole), length-append (c .bytes) (c .rest), c .place)
+
+  -- one end more in its place
+  stored : (v : ℕ) → count < length new → set new count v ≡ c .ends ++ (v ∷ []) ++ drop (length (c .ends ++ (v ∷ []))) old
+  stored v h =
+      let n : length (c .ends ++ (v ∷ [])) ≡ suc (length (c .ends)) = omega (arith, length-append (c .ends) (v ∷ [])) in
+      let d : drop (length (c .ends)) old ≡ getD old (length (c .ends)) 0 ∷ drop (suc (length (c .ends))) old = drop-cons old (length (c .ends)) 0 (omega (arith, h, c .counted, c .size)) in
+      ap (λ y. set y count v) (c .kept ∙ ap (λ y. c .ends ++ y) d)
+      ∙ set-at (c .ends) (getD old (length (c .ends)) 0) (drop (suc (length (c .ends))) old) v count (sym (c .counted))
+      ∙ sym (append-assoc (c .ends) (v ∷ []) (drop (suc (length (c .ends))) old))
+      ∙ ap (λ y. c .ends ++ (v ∷ []) ++ drop y old) (sym n)
+
+  module _ {n : ℕ} {p : Passed} (x : Next Head n (drop at s) p) where
+    pub reading-more : {q : ℕ} → p ≡ At q → count < length new → Reading Head s old (set new count (at + q)) (at + q) (count + 1)
+    reading-more {q} e h = by (subst (Next Head n (drop at s)) e x)
+      where
+        by : Next Head n (drop at s) (At q) → Reading Head s old (set new count (at + q)) (at + q) (count + 1)
+        by (read {w = w} t {l = l} {fs = fs} z i k d) =
+            let m : at + q ≡ length (c .bytes ++ w) = omega (arith, i, c .place, length-append (c .bytes) w) in
+            let u : 0 + length (c .bytes ++ w) ≡ at + q = omega (arith, m) in
+            record {
+              bytes = c .bytes ++ w;
+              rest = t;
+              heads = c .heads ++ ((l, fs) ∷ []);
+              ends = c .ends ++ ((at + q) ∷ []);
+              whole = c .whole ∙ ap (λ y. c .bytes ++ y) (sym behind ∙ z) ∙ sym (append-assoc (c .bytes) w t);
+              row = subst (λ y. Row Head 0 (c .bytes ++ w) (c .heads ++ ((l, fs) ∷ [])) (c .ends ++ (y ∷ []))) u (row-more (c .row) d);
+              place = m;
+              counted = omega (arith, c .counted, length-append (c .ends) ((at + q) ∷ []));
+              kept = stored (at + q) h;
+              size = length-set new count (at + q) ∙ c .size;
+              room = omega (arith, h, c .size);
+            }
+
+    -- the reading goes on, and within the input
+    pub reading-less : {q : ℕ} → p ≡ At q → (1 ≤ q) × (at + q ≤ length s)
+    reading-less {q} e = by (subst (Next Head n (drop at s)) e x)
+      where
+        by : Next Head n (drop at s) (At q) → (1 ≤ q) × (at + q ≤ length s)
+        by (read {w = w} t z i k d) = (omega (arith, i, k), omega (arith, i, left, ap length (sym behind ∙ z), length-append w t))
+
+  module _ {r : Heads} (i : r .count ≡ count) (j : r .end ≡ at) where
+    ended : {n : ℕ} → Stopped Head n (c .rest) (r .count) (length old) (r .stop) → RowPromise Head n s old r new
+    ended x = record { bytes = c .bytes; rest = c .rest; heads = c .heads; ends = c .ends; whole = c .whole; row = c .row; end = j ∙ c .place; count = i ∙ c .counted; kept = c .kept; stopped = x }
+
+    pub reading-end : {n : ℕ} → length s ≤ at → r .stop ≡ stops.End → RowPromise Head n s old r new
+    reading-end {n} h e = ended (subst (Stopped Head n (c .rest) (r .count) (length old)) (sym e) (all-read (empty (c .rest) (omega (arith, h, left)))))
+      where
+        empty : (l : List ℕ) → length l ≤ 0 → l ≡ []
+        empty [] h = refl
+        empty (y ∷ ys) h = absurd (omega (arith, h))
+
+    pub reading-full : {n : ℕ} → at < length s → length new ≤ count → r .stop ≡ stops.Full → RowPromise Head n s old r new
+    reading-full {n} h k e = ended (subst (Stopped Head n (c .rest) (r .count) (length old)) (sym e) (full (omega (arith, i, k, c .size, c .room)) (omega (arith, h, left))))
+
+    -- there are as many slots as before
+    module _ {m n : ℕ} (k : m ≡ n) {p : Passed} (x : Next Head (m / 4) (drop at s) p) (h : at < length s) where
+      pub reading-unfinished : p ≡ More → r .stop ≡ stops.More → RowPromise Head (n / 4) s old r new
+      reading-unfinished e f =
+          let y = by (subst (Next Head (m / 4) (drop at s)) e x) in
+          ended (subst (Stopped Head (n / 4) (c .rest) (r .count) (length old)) (sym f) (unfinished (λ w t l fs z. y w t l fs (behind ∙ z)) (omega (arith, h, left))))
+        where
+          by : Next Head (m / 4) (drop at s) More → (w t : List ℕ) (l : L) (fs : List Field) → drop at s ≡ w ++ t → Head w l fs → ⊥
+          by (waits y) = y
+
+      pub reading-wrong : {z : Error} → p ≡ Bad z → r .stop ≡ stops.Bad z → RowPromise Head (n / 4) s old r new
+      reading-wrong {z} e f =
+          let y = by (subst (Next Head (m / 4) (drop at s)) e x) in
+          ended (subst (Stopped Head (n / 4) (c .rest) (r .count) (length old)) (sym f) (wrong (λ u w t l fs z d i. y u w t l fs (ap (λ v. v ++ u) behind ∙ z) d (omega (arith, k, i))) (omega (arith, h, left))))
+        where
+          by : Next Head (m / 4) (drop at s) (Bad z) → (u w t : List ℕ) (l : L) (fs : List Field) → drop at s ++ u ≡ w ++ t → Head w l fs → length fs ≤ m / 4 → ⊥
+          by (fails y) = y
+
+pub ruleset readings = (reading-none, reading-more, reading-end, reading-full, reading-unfinished, reading-wrong)

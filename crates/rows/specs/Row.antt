@@ -1,0 +1,40 @@
+-- Heads one behind another, and what reading them comes to.
+-- Assumes nothing.
+use Prim.Native.Nat.{ℕ, _+_, _≤_, _<_}
+use mathlib.Core.Path.{_≡_}
+use mathlib.Core.List.{List, [], _∷_, _++_}
+use lib.ListN.{length, drop}
+use Rattle.grammar.specs.Fields.{Field}
+use Rattle.parts.specs.declared.Error.{Error}
+use Rattle.rows.specs.declared.Heads.{Heads}
+use Rattle.rows.specs.declared.Stop.{Stop}
+use Rattle.rows.specs.declared.Stop.the-variants as stops
+
+-- heads one behind another from a position on, what each says, and the position behind each
+pub data Row {L : Type 0} (Head : List ℕ → L → List Field → Type 0) : ℕ → List ℕ → List (L × List Field) → List ℕ → Type 0 where
+  none : {at : ℕ} → Row Head at [] [] []
+  more : {at : ℕ} {w v : List ℕ} {l : L} {fs : List Field} {rest : List (L × List Field)} {ends : List ℕ} → Head w l fs → Row Head (at + length w) v rest ends → Row Head at (w ++ v) ((l, fs) ∷ rest) ((at + length w) ∷ ends)
+
+-- why the reading stopped before the bytes rest, with n slots, after as many heads as count, of which there is room for all
+pub data Stopped {L : Type 0} (Head : List ℕ → L → List Field → Type 0) (n : ℕ) (rest : List ℕ) (count all : ℕ) : Stop → Type 0 where
+  -- nothing is left
+  all-read : rest ≡ [] → Stopped Head n rest count all stops.End
+  -- there is no room for the end of one more
+  full : count ≡ all → 1 ≤ length rest → Stopped Head n rest count all stops.Full
+  -- no head has ended yet in what is left
+  unfinished : ((w t : List ℕ) (l : L) (fs : List Field) → rest ≡ w ++ t → Head w l fs → ⊥) → 1 ≤ length rest → Stopped Head n rest count all stops.More
+  -- no head that fits the slots begins there, whatever bytes u follow
+  wrong : {e : Error} → ((u w t : List ℕ) (l : L) (fs : List Field) → rest ++ u ≡ w ++ t → Head w l fs → length fs ≤ n → ⊥) → 1 ≤ length rest → Stopped Head n rest count all (stops.Bad e)
+
+-- what was read is a row of heads, its ends are in their places, and those behind them are as they were
+pub record RowPromise {L : Type 0} (Head : List ℕ → L → List Field → Type 0) (n : ℕ) (s old : List ℕ) (r : Heads) (new : List ℕ) : Type 0 where
+  pub bytes : List ℕ
+  pub rest : List ℕ
+  pub heads : List (L × List Field)
+  pub ends : List ℕ
+  pub whole : s ≡ bytes ++ rest
+  pub row : Row Head 0 bytes heads ends
+  pub end : r .end ≡ length bytes
+  pub count : r .count ≡ length ends
+  pub kept : new ≡ ends ++ drop (length ends) old
+  pub stopped : Stopped Head n rest (r .count) (length old) (r .stop)

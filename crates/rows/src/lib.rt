@@ -1,0 +1,129 @@
+// Heads one behind another: each is read from the end of the one before it. They demand nothing of the caller.
+ghost use Prim.Native.Nat.{_/_, _≤_};
+ghost use lib.ListN.{length, drop};
+ghost use Rattle.rules.specs.Rules.{default};
+ghost use Rattle.grammar.specs.Message.{request-head, response-head};
+ghost use Rattle.rows.specs.Row.{RowPromise};
+ghost use Rattle.rows.specs.Reading.{Next};
+use parts::Error;
+use parts::Passed;
+
+// Why the reading stopped: all of the input was read; there is no room for one more end; the input ends before the next head does; the
+// next head has an error.
+pub enum Stop {
+    End,
+    Full,
+    More,
+    Bad(Error),
+}
+
+// How many heads were read, the position behind the last of them, and why the reading stopped there.
+pub struct Heads {
+    pub count: usize,
+    pub end: usize,
+    pub stop: Stop,
+}
+
+// The end of the head that starts at `at`, from there on.
+fn next_request(s: &[u8], at: usize, slots: &mut [usize]) -> Passed
+    requires { ⌜ at ≤ length (now s) ⌝ }
+    ensures { λ r. ⌜ Next (request-head default) (length (now (slots .entry)) / 4) (drop at (now (s .entry))) r ⌝ }
+{
+    let head = calls::request(&s[at..], slots);
+    head.end
+}
+
+fn next_response(s: &[u8], at: usize, slots: &mut [usize]) -> Passed
+    requires { ⌜ at ≤ length (now s) ⌝ }
+    ensures { λ r. ⌜ Next (response-head default) (length (now (slots .entry)) / 4) (drop at (now (s .entry))) r ⌝ }
+{
+    let head = calls::response(&s[at..], slots);
+    head.end
+}
+
+// Puts the position behind each head into `ends`. The slots are used for each head in turn, and hold the last head's when it returns.
+pub fn requests(s: &[u8], slots: &mut [usize], ends: &mut [usize]) -> Heads
+    ensures { λ r. ⌜ RowPromise (request-head default) (length (now (slots .entry)) / 4) (now (s .entry)) (now (ends .entry)) r (now (ends .exit)) ⌝ }
+{
+    let mut at = 0;
+    let mut count = 0;
+    while at < s.len() {
+        if ends.len() <= count {
+            return Heads {
+                count,
+                end: at,
+                stop: Stop::Full,
+            };
+        }
+        let end = next_request(s, at, slots);
+        match end {
+            Passed::At(n) => {
+                at += n;
+                ends[count] = at;
+                count += 1;
+            }
+            Passed::More => {
+                return Heads {
+                    count,
+                    end: at,
+                    stop: Stop::More,
+                };
+            }
+            Passed::Bad(e) => {
+                return Heads {
+                    count,
+                    end: at,
+                    stop: Stop::Bad(e),
+                };
+            }
+        }
+    }
+    Heads {
+        count,
+        end: at,
+        stop: Stop::End,
+    }
+}
+
+pub fn responses(s: &[u8], slots: &mut [usize], ends: &mut [usize]) -> Heads
+    ensures { λ r. ⌜ RowPromise (response-head default) (length (now (slots .entry)) / 4) (now (s .entry)) (now (ends .entry)) r (now (ends .exit)) ⌝ }
+{
+    let mut at = 0;
+    let mut count = 0;
+    while at < s.len() {
+        if ends.len() <= count {
+            return Heads {
+                count,
+                end: at,
+                stop: Stop::Full,
+            };
+        }
+        let end = next_response(s, at, slots);
+        match end {
+            Passed::At(n) => {
+                at += n;
+                ends[count] = at;
+                count += 1;
+            }
+            Passed::More => {
+                return Heads {
+                    count,
+                    end: at,
+                    stop: Stop::More,
+                };
+            }
+            Passed::Bad(e) => {
+                return Heads {
+                    count,
+                    end: at,
+                    stop: Stop::Bad(e),
+                };
+            }
+        }
+    }
+    Heads {
+        count,
+        end: at,
+        stop: Stop::End,
+    }
+}

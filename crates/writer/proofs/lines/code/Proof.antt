@@ -1,0 +1,23 @@
+-- `writer::lines::code` meets its contract: the code has three digits.
+-- Assumes nothing.
+use borrow.Author.Needs.{needs}
+use native.Mathlib.Omega.{arith}
+use Rattle.writer.specs.Lines.{number-most, code-put}
+use Rattle.writer.proofs.lines.code.Statement.{statement}
+use Rattle.writer.proofs.lines.code.Tie as tie
+
+pub code-spec : {M : Type 1} → statement M
+code-spec =
+    tie.close
+    (tie.spec
+    (λ c κs. search needs)
+    (λ c. record { fits = omega (arith, number-most (c .before .before .before .pre) (c .before .number .ensures)) })
+    (λ c. record { fits = omega (arith, number-most (c .before .before .before .pre) (c .before .number .ensures)) })
+    (λ c. search needs)
+    (λ c. search needs)
+    (λ c. search needs)
+    (λ c. search needs)
+    (λ c. search needs)
+    (λ c κs. search needs)
+    (λ c. search needs)
+    (λ c. code-put (c .before .before .before .before .before .number .ensures) (c .before .before .put .ensures)))

@@ -1,0 +1,17 @@
+-- `writer::lines::known_piece` meets its contract: a piece is known and put.
+-- Assumes nothing.
+use borrow.Author.Needs.{needs}
+use Rattle.writer.specs.Lines.{piece-lies, known-piece, unknown-piece}
+use Rattle.writer.proofs.lines.known_piece.Statement.{statement}
+use Rattle.writer.proofs.lines.known_piece.Tie as tie
+
+pub known-piece-spec : {M : Type 1} → statement M
+known-piece-spec =
+    tie.close
+    (tie.spec
+    (λ c. search needs)
+    (λ c κs. search (needs, piece-lies, known-piece, unknown-piece))
+    (λ c. search needs)
+    (λ c. search needs)
+    (λ c. search (needs, piece-lies, known-piece, unknown-piece))
+    (λ c. search (needs, piece-lies, known-piece, unknown-piece)))

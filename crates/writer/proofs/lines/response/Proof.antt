@@ -1,0 +1,21 @@
+-- `writer::lines::response` meets its contract: the headers are put behind the status line.
+-- Assumes nothing.
+use borrow.Author.Needs.{needs}
+use Rattle.output.specs.Put.{adds-then}
+use Rattle.writer.proofs.lines.response.Statement.{statement}
+use Rattle.writer.proofs.lines.response.Tie as tie
+
+returns : tie.Need-returns
+returns c =
+    let b = c .before .before in
+    let a = b .before .before .before .before in
+    adds-then (a .status-line .ensures) (b .fields .ensures)
+
+pub response-spec : {M : Type 1} → statement M
+response-spec =
+    tie.close
+    (tie.spec
+    (λ c κs. search needs)
+    (λ c κs. search needs)
+    (λ c. search needs)
+    returns)

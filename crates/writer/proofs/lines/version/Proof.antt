@@ -1,0 +1,19 @@
+-- `writer::lines::version` meets its contract: the minor number is a digit.
+-- Assumes nothing.
+use borrow.Author.Needs.{needs}
+use native.Mathlib.Omega.{arith}
+use Rattle.writer.specs.Lines.{number-most, version-put}
+use Rattle.writer.proofs.lines.version.Statement.{statement}
+use Rattle.writer.proofs.lines.version.Tie as tie
+
+pub version-spec : {M : Type 1} → statement M
+version-spec =
+    tie.close
+    (tie.spec
+    (λ c κs. search needs)
+    (λ c. record { fits = omega (arith, number-most (c .before .before .before .pre) (c .before .number .ensures)) })
+    (λ c. record { fits = omega (arith, number-most (c .before .before .before .pre) (c .before .number .ensures)) })
+    (λ c. search needs)
+    (λ c κs. search needs)
+    (λ c. search needs)
+    (λ c. version-put (c .before .before .before .before .before .number .ensures) (c .before .before .put .ensures)))

@@ -1,0 +1,20 @@
+-- `writer::plain_response` meets its contract: what does not lie in the input, is too long or has no room is refused before a byte is written.
+-- Assumes nothing.
+use borrow.Author.Needs.{needs}
+use Rattle.writer.specs.Promise.{promised}
+use Rattle.writer.proofs.plain_response.Statement.{statement}
+use Rattle.writer.proofs.plain_response.Tie as tie
+
+pub plain-response-spec : {M : Type 1} → statement M
+plain-response-spec =
+    tie.close
+    (tie.spec
+    (λ c κs. search needs)
+    (λ c. search (needs, promised))
+    (λ c. search needs)
+    (λ c κs. search (needs, promised))
+    (λ c. search (needs, promised))
+    (λ c. search (needs, promised))
+    (λ c κs. search (needs, promised))
+    (λ c. search needs)
+    (λ c. search (needs, promised)))

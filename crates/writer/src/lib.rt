@@ -1,0 +1,73 @@
+// The plain form of what was read, written into bytes that the caller lends. It demands nothing of the caller.
+ghost use Rattle.plain.specs.Plain.{plain-request, plain-response, plain-fields};
+ghost use Rattle.agreement.specs.Known.{fieldsIn};
+ghost use Rattle.places.specs.Lies.{RequestLies, ResponseLies, BlockLies, requestOf, statusOf};
+ghost use Rattle.writer.specs.Promise.{PlainPromise};
+
+mod lines;
+
+use blocks::Block;
+use heads::RequestHead;
+use heads::ResponseHead;
+
+// So many bytes were written; so many are needed, and nothing was written; what was read is not complete, or its places do not lie in the
+// input; there are more bytes to write than a number can say.
+pub enum Plain {
+    Written(usize),
+    Needs(usize),
+    Unwritable,
+    TooLong,
+}
+
+pub fn plain_request(s: &[u8], head: RequestHead, slots: &[usize], out: &mut [u8]) -> Plain
+    ensures { λ r. ⌜ PlainPromise (RequestLies (now (s .entry)) head (now (slots .entry))) (plain-request (requestOf (now (s .entry)) (head .line)) (fieldsIn (now (s .entry)) (head .count) (now (slots .entry)))) (now (out .entry)) r (now (out .exit)) ⌝ }
+{
+    if !places::request(s, head, slots) {
+        return Plain::Unwritable;
+    }
+    // a byte of room is enough to learn the length
+    let n = lines::request(&mut [0], s, head, slots);
+    if n == usize::MAX {
+        return Plain::TooLong;
+    }
+    if out.len() < n {
+        return Plain::Needs(n);
+    }
+    lines::request(out, s, head, slots);
+    Plain::Written(n)
+}
+
+pub fn plain_response(s: &[u8], head: ResponseHead, slots: &[usize], out: &mut [u8]) -> Plain
+    ensures { λ r. ⌜ PlainPromise (ResponseLies (now (s .entry)) head (now (slots .entry))) (plain-response (statusOf (now (s .entry)) (head .line)) (fieldsIn (now (s .entry)) (head .count) (now (slots .entry)))) (now (out .entry)) r (now (out .exit)) ⌝ }
+{
+    if !places::response(s, head, slots) {
+        return Plain::Unwritable;
+    }
+    let n = lines::response(&mut [0], s, head, slots);
+    if n == usize::MAX {
+        return Plain::TooLong;
+    }
+    if out.len() < n {
+        return Plain::Needs(n);
+    }
+    lines::response(out, s, head, slots);
+    Plain::Written(n)
+}
+
+pub fn plain_headers(s: &[u8], block: Block, slots: &[usize], out: &mut [u8]) -> Plain
+    ensures { λ r. ⌜ PlainPromise (BlockLies (now (s .entry)) block (now (slots .entry))) (plain-fields (fieldsIn (now (s .entry)) (block .count) (now (slots .entry)))) (now (out .entry)) r (now (out .exit)) ⌝ }
+{
+    if !places::block(s, block, slots) {
+        return Plain::Unwritable;
+    }
+    let count = block.count;
+    let n = lines::fields(&mut [0], 0, s, slots, count);
+    if n == usize::MAX {
+        return Plain::TooLong;
+    }
+    if out.len() < n {
+        return Plain::Needs(n);
+    }
+    lines::fields(out, 0, s, slots, count);
+    Plain::Written(n)
+}
