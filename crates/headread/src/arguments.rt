@@ -1,10 +1,17 @@
-// The arguments: request|response|headers|chunk [--raw] [FILE].
+// The arguments: request|response|headers|chunk [--raw] [FILE], or --plain request|response|headers [FILE].
 use libc::STDERR_FILENO;
 use wording::Kind;
 
-// What to read, whether for a script, and which argument names the file, 0 for none; or the call was refused with a message.
+// A report for a person or for a script, or the plain form.
+pub enum Mode {
+    Person,
+    Script,
+    Plain,
+}
+
+// What to read, what to print of it, and which argument names the file, 0 for none; or the call was refused with a message.
 pub enum Call {
-    Read(Kind, bool, usize),
+    Read(Kind, Mode, usize),
     Refused,
 }
 
@@ -14,24 +21,40 @@ enum Word {
 }
 
 pub fn asked() -> Call {
-    let word = first();
+    if is(1, b"--plain") {
+        return asked_plain();
+    }
+    let word = kind_at(1);
     match word {
         Word::Is(kind) => {
-            if is_raw() {
-                with_file(kind, true, 3)
+            if is(2, b"--raw") {
+                with_file(kind, Mode::Script, 3)
             } else {
-                with_file(kind, false, 2)
+                with_file(kind, Mode::Person, 2)
             }
         }
         Word::Other => refused(
-            b"headread: the first argument must be request, response, headers or chunk\n",
+            b"headread: the first argument must be request, response, headers or chunk, or --plain\n",
         ),
     }
 }
 
-fn first() -> Word {
+fn asked_plain() -> Call {
+    let word = kind_at(2);
+    match word {
+        Word::Is(kind) => match kind {
+            Kind::Chunk => refused(b"headread: a chunk size line has no plain form\n"),
+            _ => with_file(kind, Mode::Plain, 3),
+        },
+        Word::Other => refused(
+            b"headread: behind --plain must stand request, response or headers\n",
+        ),
+    }
+}
+
+fn kind_at(at: usize) -> Word {
     let mut word = io::buffer();
-    let n = os::arg(1, &mut word);
+    let n = os::arg(at, &mut word);
     kind(&word[..n])
 }
 
@@ -52,29 +75,29 @@ fn kind(word: &[u8]) -> Word {
     }
 }
 
-fn is_raw() -> bool {
+fn is(at: usize, option: &[u8]) -> bool {
     let mut word = io::buffer();
-    let n = os::arg(2, &mut word);
-    check::same(&word[..n], b"--raw")
+    let n = os::arg(at, &mut word);
+    check::same(&word[..n], option)
 }
 
 // The file is the last argument, and may be left out.
-fn with_file(kind: Kind, raw: bool, at: usize) -> Call {
+fn with_file(kind: Kind, mode: Mode, at: usize) -> Call {
     let count = os::arg_count();
     if count <= at {
-        return Call::Read(kind, raw, 0);
+        return Call::Read(kind, mode, 0);
     }
     if at < count - 1 {
         return refused(
-            b"headread: too many arguments: one file is read, and --raw stands before its name\n",
+            b"headread: too many arguments: one file is read, and its name stands last\n",
         );
     }
     if is_option(at) {
         return refused(
-            b"headread: --raw is the only option; a file whose name starts with - is given as ./-\n",
+            b"headread: --plain stands first, --raw second; a file whose name starts with - is given as ./-\n",
         );
     }
-    Call::Read(kind, raw, at)
+    Call::Read(kind, mode, at)
 }
 
 fn is_option(at: usize) -> bool {
@@ -91,8 +114,10 @@ fn refused(why: &[u8]) -> Call {
     io::write_all(
         STDERR_FILENO,
         b"usage: headread request|response|headers|chunk [--raw] [FILE]
+       headread --plain request|response|headers [FILE]
   says what stands at the start of FILE, or of standard input where no file is named
-  --raw  one line a field with tabs between, for scripts
+  --raw    one line a field with tabs between, for scripts
+  --plain  the head alone in its plain form: CR LF at each line's end, one space before each value
 ",
     );
     Call::Refused

@@ -3,23 +3,25 @@ mod arguments;
 mod input;
 
 use arguments::Call;
+use arguments::Mode;
 use input::Input;
 use libc::STDERR_FILENO;
 use libc::STDOUT_FILENO;
 use page::place::part;
 use page::text::Page;
 use wording::Kind;
+use writer::Plain;
 
 fn main() {
     let call = arguments::asked();
     match call {
-        Call::Read(kind, raw, file) => read(kind, raw, file),
+        Call::Read(kind, mode, file) => read(kind, mode, file),
         Call::Refused => {}
     }
 }
 
 // Reads the file that an argument names, and shows what is in it.
-fn read(kind: Kind, raw: bool, file: usize) {
+fn read(kind: Kind, mode: Mode, file: usize) {
     let descriptor = input::open(file);
     if descriptor < 0 {
         return;
@@ -28,20 +30,43 @@ fn read(kind: Kind, raw: bool, file: usize) {
     let mut buffer = [0u8; 65537];
     let found = input::read(descriptor, &mut buffer);
     match found {
-        Input::Bytes(n) => show(kind, raw, part(&buffer, 0, n)),
+        Input::Bytes(n) => show(kind, mode, part(&buffer, 0, n)),
         Input::Unreadable => input::refuse(b"headread: the input"),
         Input::TooLong => input::refuse_long(),
     }
 }
 
-// Nothing is written before all of the report is there.
-fn show(kind: Kind, raw: bool, s: &[u8]) {
+// Nothing is written before all of it is there.
+fn show(kind: Kind, mode: Mode, s: &[u8]) {
     let mut page = [0u8; 589824];
-    let n = report::report(&mut page, kind, raw, s);
-    write(&page, n);
+    match mode {
+        Mode::Person => {
+            let n = report::report(&mut page, kind, false, s);
+            write(STDOUT_FILENO, &page, n);
+        }
+        Mode::Script => {
+            let n = report::report(&mut page, kind, true, s);
+            write(STDOUT_FILENO, &page, n);
+        }
+        Mode::Plain => show_plain(&mut page, kind, s),
+    }
 }
 
-fn write(page: &Page, n: usize) {
+// What has no plain form is told on standard error.
+fn show_plain(page: &mut Page, kind: Kind, s: &[u8]) {
+    let plain = restate::restate(page, kind, s);
+    match plain {
+        Plain::Written(n) => write(STDOUT_FILENO, page, n),
+        Plain::Unwritable => {
+            let n = report::report(page, kind, false, s);
+            write(STDERR_FILENO, page, n);
+        }
+        Plain::Needs(n) => write(STDOUT_FILENO, page, n),
+        Plain::TooLong => write(STDOUT_FILENO, page, usize::MAX),
+    }
+}
+
+fn write(descriptor: i32, page: &Page, n: usize) {
     let all: &[u8] = page;
     if all.len() < n {
         io::write_all(
@@ -50,7 +75,7 @@ fn write(page: &Page, n: usize) {
         );
         return;
     }
-    if !io::write_all(STDOUT_FILENO, &all[0..n]) {
+    if !io::write_all(descriptor, &all[0..n]) {
         os::fail(b"headread: the report cannot be written");
     }
 }

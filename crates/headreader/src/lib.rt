@@ -1,4 +1,7 @@
 // The calls for programs in C: each answer as a number and eight more.
+mod in_a_row;
+mod writers;
+
 ghost use Prim.Native.Nat.{_≤_};
 use chunks::ChunkSize;
 use parts::Error;

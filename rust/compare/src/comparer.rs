@@ -1,8 +1,10 @@
 //! Compares two readers on one case after another, and tells the shortest input on which they differ.
 
 use crate::numbers::Numbers;
+use crate::plain::RoundTrip;
 use crate::shrink::shrink;
 use crate::{ours, text, theirs, Case, Tally};
+use answers::Call;
 
 /// Makes a call, and writes what it answers.
 type Reader = dyn Fn(&Case, &mut Numbers);
@@ -13,6 +15,7 @@ pub struct Comparer {
     reader: Box<Reader>,
     ours: Numbers,
     theirs: Numbers,
+    round_trip: RoundTrip,
     tally: Tally,
 }
 
@@ -28,16 +31,24 @@ impl Comparer {
             reader: Box::new(reader),
             ours: Numbers::default(),
             theirs: Numbers::default(),
+            round_trip: RoundTrip::default(),
             tally: Tally::default(),
         }
     }
 
-    /// Counts the case, and panics if the two answer it differently.
+    /// Counts the case, and panics if the two answer it differently, or if a complete head does not
+    /// come back from its plain form.
     pub fn compare(&mut self, case: &Case) {
         if self.differ(case) {
             panic!("{}", self.report(case));
         }
         self.tally.count(self.theirs.status);
+        if is_complete_head(case, &self.theirs) {
+            if let Err(wrong) = self.round_trip.go(case, &self.theirs) {
+                panic!("the round trip of {} failed: {wrong}", case.query());
+            }
+            self.tally.count_round_trip();
+        }
     }
 
     pub fn tally(&self) -> Tally {
@@ -72,11 +83,15 @@ impl Comparer {
     }
 }
 
+/// What has a plain form.
+fn is_complete_head(case: &Case, answer: &Numbers) -> bool {
+    answer.status == 0 && case.call != Call::ChunkSize
+}
+
 #[cfg(test)]
 mod tests {
     use super::*;
     use crate::numbers::UNTOUCHED;
-    use answers::Call;
 
     /// Every call, complete, incomplete and refused, with written slots, free ones and a remainder.
     const CASES: [Case; 8] = [

@@ -5,24 +5,35 @@ use answers::Call;
 use std::fmt;
 use std::ops::AddAssign;
 
-/// The number of comparisons for each status.
+/// The number of comparisons for each status, and of the round trips through the plain form.
 #[derive(Clone, Copy, Default)]
-pub struct Tally([u64; STATUSES.len()]);
+pub struct Tally {
+    statuses: [u64; STATUSES.len()],
+    round_trips: u64,
+}
 
 impl Tally {
     /// Counts one comparison; a status is an index, since httparse's answer was translated to it.
     pub fn count(&mut self, status: u32) {
-        self.0[status as usize] += 1;
+        self.statuses[status as usize] += 1;
+    }
+
+    pub fn count_round_trip(&mut self) {
+        self.round_trips += 1;
     }
 
     pub fn total(&self) -> u64 {
-        self.0.iter().sum()
+        self.statuses.iter().sum()
     }
 
     /// Panics if something that a call may answer was never answered: then the cases were too few.
     pub fn assert_all_seen(&self, call: Call) {
         for &status in statuses(call) {
-            assert!(self.0[status] > 0, "{call} was never {}", STATUSES[status]);
+            assert!(
+                self.statuses[status] > 0,
+                "{call} was never {}",
+                STATUSES[status]
+            );
         }
     }
 }
@@ -39,21 +50,23 @@ fn statuses(call: Call) -> &'static [usize] {
 
 impl AddAssign for Tally {
     fn add_assign(&mut self, other: Tally) {
-        for (sum, more) in self.0.iter_mut().zip(other.0) {
+        for (sum, more) in self.statuses.iter_mut().zip(other.statuses) {
             *sum += more;
         }
+        self.round_trips += other.round_trips;
     }
 }
 
 impl fmt::Display for Tally {
     fn fmt(&self, formatter: &mut fmt::Formatter<'_>) -> fmt::Result {
-        let refused: u64 = self.0[2..].iter().sum();
+        let refused: u64 = self.statuses[2..].iter().sum();
         write!(
             formatter,
-            "{} comparisons ({} complete, {} incomplete, {refused} errors)",
+            "{} comparisons ({} complete, {} incomplete, {refused} errors) and {} round trips",
             self.total(),
-            self.0[0],
-            self.0[1]
+            self.statuses[0],
+            self.statuses[1],
+            self.round_trips
         )
     }
 }

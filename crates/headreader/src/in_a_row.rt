@@ -1,0 +1,37 @@
+// Heads in a row for programs in C.
+use rows::Heads;
+use rows::Stop;
+
+// How many heads were read and the position behind them; 0 where that is all of the input, 1 where the next head is incomplete, a number
+// from 2 on for its error, and 10 where there is no room for one more end.
+fn told(heads: Heads, out: &mut [usize; 2]) -> u32 {
+    let stop = heads.stop;
+    out[0] = heads.count;
+    out[1] = heads.end;
+    match stop {
+        Stop::End => 0,
+        Stop::More => 1,
+        Stop::Bad(e) => crate::error_number(e),
+        Stop::Full => 10,
+    }
+}
+
+#[no_mangle]
+pub extern "C" fn hr_requests(
+    buf: &[u8],
+    slots: &mut [usize],
+    ends: &mut [usize],
+    out: &mut [usize; 2],
+) -> u32 {
+    told(rows::requests(buf, slots, ends), out)
+}
+
+#[no_mangle]
+pub extern "C" fn hr_responses(
+    buf: &[u8],
+    slots: &mut [usize],
+    ends: &mut [usize],
+    out: &mut [usize; 2],
+) -> u32 {
+    told(rows::responses(buf, slots, ends), out)
+}

@@ -1,0 +1,106 @@
+//! Heads one behind another, read by Headreader and, head by head, by httparse.
+
+use crate::numbers::{Numbers, SLOT};
+use crate::{theirs, Case};
+use answers::Call;
+
+extern "C" {
+    fn hr_requests(
+        start: *const u8,
+        length: usize,
+        slots: *mut u64,
+        room: usize,
+        ends: *mut u64,
+        heads: usize,
+        out: *mut u64,
+    ) -> u32;
+    fn hr_responses(
+        start: *const u8,
+        length: usize,
+        slots: *mut u64,
+        room: usize,
+        ends: *mut u64,
+        heads: usize,
+        out: *mut u64,
+    ) -> u32;
+}
+
+/// The status of a row that has more heads than there is room for their ends.
+pub const FULL: u32 = 10;
+
+/// What every end holds before the call.
+pub const UNTOUCHED: u64 = u64::MAX;
+
+/// Why the reading stopped, how many heads were read, the position behind them, and all of the ends.
+#[derive(Debug, PartialEq, Eq)]
+pub struct Row {
+    pub status: u32,
+    pub count: u64,
+    pub end: u64,
+    pub ends: Vec<u64>,
+}
+
+/// What Headreader answers, with this many slots and room for this many ends.
+pub fn ours(call: Call, input: &[u8], slots: usize, heads: usize) -> Row {
+    let mut lent = vec![UNTOUCHED; slots * SLOT];
+    let mut ends = vec![UNTOUCHED; heads];
+    let mut out = [UNTOUCHED; 2];
+    let reader = match call {
+        Call::Request => hr_requests,
+        _ => hr_responses,
+    };
+    // SAFETY: each pointer is to as many live elements as its length says, two for `out`, and
+    // those to be written overlap nothing.
+    let status = unsafe {
+        reader(
+            input.as_ptr(),
+            input.len(),
+            lent.as_mut_ptr(),
+            lent.len(),
+            ends.as_mut_ptr(),
+            ends.len(),
+            out.as_mut_ptr(),
+        )
+    };
+    Row {
+        status,
+        count: out[0],
+        end: out[1],
+        ends,
+    }
+}
+
+/// What httparse answers when it is called again and again, from each end on.
+pub fn theirs(call: Call, input: &[u8], slots: usize, heads: usize) -> Row {
+    let mut ends = vec![UNTOUCHED; heads];
+    let mut numbers = Numbers::default();
+    let (mut at, mut count) = (0, 0);
+    let status = loop {
+        if at == input.len() {
+            break 0;
+        }
+        if count == heads {
+            break FULL;
+        }
+        let case = Case {
+            call,
+            slots,
+            remainder: 0,
+            input: &input[at..],
+        };
+        numbers.lend(case.room());
+        theirs::read(&case, &mut numbers);
+        if numbers.status != 0 {
+            break numbers.status;
+        }
+        at += numbers.out.numbers()[0] as usize;
+        ends[count] = at as u64;
+        count += 1;
+    };
+    Row {
+        status,
+        count: count as u64,
+        end: at as u64,
+        ends,
+    }
+}

@@ -1,0 +1,91 @@
+//! Heads one behind another: good ones, damaged ones, and cuts, with any room for slots and ends.
+
+use answers::Call;
+use compare::heads::{make, shapes, Shape};
+use compare::row::{ours, theirs, FULL};
+use compare::Random;
+
+const SEED: u64 = 2068;
+const ROWS: usize = 40_000;
+
+/// Shapes of short heads of a call.
+fn short(call: Call) -> Vec<Shape> {
+    let of_call = shapes().into_iter().filter(|shape| shape.call == call);
+    of_call
+        .filter(|shape| shape.headers < 10)
+        .filter(|shape| shape.length < 1_000)
+        .collect()
+}
+
+/// Some heads with nothing between them, and how many there are.
+fn row(shapes: &[Shape], random: &mut Random) -> (Vec<u8>, usize) {
+    let count = random.below(7);
+    let mut bytes = Vec::new();
+    for _ in 0..count {
+        let head = make(&random.choose(shapes), random);
+        bytes.extend_from_slice(head_alone(&head.bytes));
+    }
+    (bytes, count)
+}
+
+/// The head without what stands behind it.
+fn head_alone(bytes: &[u8]) -> &[u8] {
+    let end = (1..=bytes.len()).find(|&end| is_head(&bytes[..end]));
+    &bytes[..end.expect("a head that httparse accepts")]
+}
+
+fn is_head(bytes: &[u8]) -> bool {
+    let mut headers = [httparse::EMPTY_HEADER; 100];
+    let request = httparse::Request::new(&mut headers).parse(bytes);
+    let mut headers = [httparse::EMPTY_HEADER; 100];
+    let response = httparse::Response::new(&mut headers).parse(bytes);
+    [request, response]
+        .iter()
+        .any(|result| matches!(result, Ok(status) if status.is_complete()))
+}
+
+/// One byte is changed, or the row is cut.
+fn damaged(mut bytes: Vec<u8>, random: &mut Random) -> Vec<u8> {
+    if bytes.is_empty() {
+        return bytes;
+    }
+    let place = random.below(bytes.len());
+    if random.below(2) == 0 {
+        bytes.truncate(place);
+    } else {
+        bytes[place] = random.choose(b" \t:\r\n\x00\x80a");
+    }
+    bytes
+}
+
+#[test]
+fn rows_of_heads() {
+    let mut random = Random::new(SEED);
+    let mut seen = [0; FULL as usize + 1];
+    let mut heads = 0;
+    for call in [Call::Request, Call::Response] {
+        let shapes = short(call);
+        for _ in 0..ROWS {
+            let (good, count) = row(&shapes, &mut random);
+            let all = ours(call, &good, 100, count);
+            assert_eq!((all.status, all.count as usize), (0, count));
+            let damage = random.below(2) == 0;
+            let input = if damage {
+                damaged(good, &mut random)
+            } else {
+                good
+            };
+            let (slots, room) = (random.below(10), random.below(8));
+            let found = ours(call, &input, slots, room);
+            let expected = theirs(call, &input, slots, room);
+            assert_eq!(found, expected, "{call}: {}", input.escape_ascii());
+            seen[found.status as usize] += 1;
+            heads += found.count;
+        }
+    }
+    for status in [0, 1, 2, 3, 4, 5, 6, 7, 8, FULL as usize] {
+        assert!(seen[status] > 0, "no row ended with status {status}");
+    }
+    let rows = 2 * ROWS;
+    println!("{rows} rows of {heads} heads (seed {SEED}), compared with httparse head by head, no difference");
+}
