@@ -83,11 +83,11 @@ fn field(out: &mut [u8], at: usize, s: &[u8], slots: &[usize], i: usize) -> usiz
         offset: slots[i + 2],
         length: slots[i + 3],
     };
-    let next = piece(out, at, s, name);
-    let next = put(out, next, b":");
-    let next = put(out, next, b" ");
-    let next = piece(out, next, s, value);
-    put(out, next, b"\r\n")
+    let colon = piece(out, at, s, name);
+    let space = put(out, colon, b":");
+    let start = put(out, space, b" ");
+    let end = piece(out, start, s, value);
+    put(out, end, b"\r\n")
 }
 
 pub(crate) fn fields(out: &mut [u8], at: usize, s: &[u8], slots: &[usize], count: usize) -> usize
