@@ -25,9 +25,11 @@ use Rattle.heads.specs.Calls.{request, response}
 use Rattle.chunks.specs.Chunk.{digits, chunkStep}
 use Rattle.agreement.specs.Fields.{fieldsOf}
 use Rattle.agreement.specs.Known.{Holds, Counts, RequestSays, StatusSays}
+use Rattle.agreement.specs.Promises.{block-alone}
 use Rattle.agreement.specs.Exactly.{Exactly}
 use Rattle.agreement.specs.Calls.{request-exactly, response-exactly, headersOf, headers-exactly}
 use Rattle.agreement.specs.Chunk.{chunk-read}
+use Rattle.onereading.specs.Statements.{OneHead}
 
 -- what an answer was given for is the same on either side
 same-got : {K : Type 0} {k k′ : K} {hs hs′ : List Header} {q q′ : ℕ} → _≡_ {A = Heads K} (got (k, hs) q) (got (k′, hs′) q′) → (k ≡ k′) × (hs ≡ hs′) × (q ≡ q′)
@@ -43,8 +45,8 @@ same-rest v s w t e h = sym (drop-at v s (length v) refl) ∙ ap (drop (length v
 
 module _ {L K : Type 0} {Head : List ℕ → L → List Field → Type 0} {Says : List ℕ → K → L → Type 0} (read : ℕ → List ℕ → Heads K) (X : (n : ℕ) → Exactly Head Says n (read n))
     (one-line : (v w : List ℕ) (l m : L) (fs gs : List Field) → Head v l fs → Head w m gs → (z : List ℕ) (k : K) → Says z k l → Says z k m → l ≡ m) where
-  one-head : (v s w t : List ℕ) {l m : L} {fs gs : List Field} → v ++ s ≡ w ++ t → Head v l fs → Head w m gs → (v ≡ w) × (l ≡ m) × (fs ≡ gs)
-  one-head v s w t {l} {m} {fs} {gs} e h i =
+  one-head : OneHead Head
+  one-head v s w t l m fs gs e h i =
       let n : ℕ = length fs + length gs in
       let A = X n .complete v s l fs h (omega arith) in
       let B = X n .complete w t m gs i (omega arith) in
@@ -78,7 +80,7 @@ version-same : (u v : Version) → u .major ≡ 1 → v .major ≡ 1 → u .mino
 version-same u v h i e = ap (λ y. record { major = y; minor = u .minor }) (h ∙ sym i) ∙ ap (λ y. record { major = v .major; minor = y }) e
 
 -- the heads of two requests that begin the same bytes
-pub one-request : (v s w t : List ℕ) {l m : RequestLine} {fs gs : List Field} → v ++ s ≡ w ++ t → request-head default v l fs → request-head default w m gs → (v ≡ w) × (l ≡ m) × (fs ≡ gs)
+pub one-request : OneHead (request-head default)
 one-request = one-head (request default) request-exactly one-line
   where
     one-line : (v w : List ℕ) (l m : RequestLine) (fs gs : List Field) → request-head default v l fs → request-head default w m gs → (z : List ℕ) (k : told.RequestLine) → RequestSays z k l → RequestSays z k m → l ≡ m
@@ -88,7 +90,7 @@ one-request = one-head (request default) request-exactly one-line
         ∙ ap (λ y. record { method = m .method; target = m .target; version = y }) (version-same (l .version) (m .version) (request-one h) (request-one i) (counts-same (k .version) (a .version) (b .version)))
 
 -- of two responses
-pub one-response : (v s w t : List ℕ) {l m : StatusLine} {fs gs : List Field} → v ++ s ≡ w ++ t → response-head default v l fs → response-head default w m gs → (v ≡ w) × (l ≡ m) × (fs ≡ gs)
+pub one-response : OneHead (response-head default)
 one-response = one-head (response default) response-exactly one-line
   where
     one-line : (v w : List ℕ) (l m : StatusLine) (fs gs : List Field) → response-head default v l fs → response-head default w m gs → (z : List ℕ) (k : told-status.StatusLine) → StatusSays z k l → StatusSays z k m → l ≡ m
@@ -98,8 +100,8 @@ one-response = one-head (response default) response-exactly one-line
         ∙ ap (λ y. record { version = m .version; code = m .code; reason = y }) (holds-same z (k .reason) (a .reason) (b .reason))
 
 -- of two blocks
-pub one-block : (v s w t : List ℕ) {fs gs : List Field} → v ++ s ≡ w ++ t → header-block default v fs → header-block default w gs → (v ≡ w) × (fs ≡ gs)
-one-block v s w t e h i = let u = one-head headersOf headers-exactly (λ v w l m fs gs h i z k a b. refl) v s w t {l = tt} {m = tt} e h i in (u .0, u .2)
+pub one-block : OneHead block-alone
+one-block = one-head headersOf headers-exactly (λ v w l m fs gs h i z k a b. refl)
 
 -- of two chunk size lines
 pub one-chunk : (v s w t : List ℕ) {m n : ℕ} → v ++ s ≡ w ++ t → chunk-line default v m → chunk-line default w n → (v ≡ w) × (m ≡ n)

@@ -1,3 +1,4 @@
+pub mod Statements
 pub mod Later
 pub mod Lines
 pub mod Blocks

@@ -30,6 +30,7 @@ use Rattle.places.specs.Lies.{bytesOf, numberOf, one-point, requestOf, statusOf
 use Rattle.writer.specs.declared.Plain.{Plain}
 use Rattle.writer.specs.declared.Plain.the-variants.{Written}
 use Rattle.writer.specs.Promise.{PlainPromise, was-written}
+use Rattle.onereading.specs.Statements.{ReadBack}
 use Rattle.onereading.specs.Derivation.{request-one, response-one}
 
 fields-counted : (z : List ℕ) (count : ℕ) (slots : List ℕ) → length (fieldsIn z count slots) ≡ count
@@ -53,12 +54,17 @@ module _ {L K : Type 0} {Head : List ℕ → L → List Field → Type 0} {Says 
         subst (λ y. Head (plain y (fieldsIn s count new)) y (fieldsIn s count new)) (sym said) (derived (H .bytes) (H .said) (fieldsIn s count new) (H .head))
 
     -- its plain form is written over out, and read by a call with slots enough
-    back : {Fit : Type 0} {out : List ℕ} {r : Plain} {out′ : List ℕ} {n : ℕ} → PlainPromise Fit form out r out′ → r ≡ Written n → {old′ : List ℕ} {end′ : Passed} {line′ : K} {count′ : ℕ} {new′ : List ℕ} → HeadPromise Head Says In out′ old′ end′ line′ count′ new′ → count ≤ length old′ / 4 →
-        (end′ ≡ At n) × (told out′ line′ ≡ told s line) × (fieldsIn out′ count′ new′ ≡ fieldsIn s count new)
-    back {out = out} {out′ = out′} {n = n} W w {line′ = line′} Q room =
+    back : {Fit : Type 0} {out : List ℕ} {r : Plain} {out′ : List ℕ} {n : ℕ} → PlainPromise Fit form out r out′ → r ≡ Written n → {old′ : List ℕ} {end′ : Passed} {line′ : K} {count′ : ℕ} {new′ : List ℕ} → HeadPromise Head Says In out′ old′ end′ line′ count′ new′ → count ≤ length old′ / 4 → ReadBack told plain s line count new n out′ end′ line′ count′ new′
+    back {out = out} {out′ = out′} {n = n} W w {line′ = line′} {count′ = count′} {new′ = new′} Q room =
         let x = was-written W w in
         let A = Q .accepts form (drop n out) (told s line) (fieldsIn s count new) (x .3) form-derived (omega (arith, room, fields-counted s count new)) in
-        (A .0 ∙ ap At (sym (x .1)), told-said out′ line′ form (told s line) (fieldsIn s count new) form-derived (A .1), A .2)
+        let l = told-said out′ line′ form (told s line) (fieldsIn s count new) form-derived (A .1) in
+        record {
+          end = A .0 ∙ ap At (sym (x .1));
+          line-again = l;
+          fields-again = A .2;
+          plain-again = ap (λ y. plain y (fieldsIn out′ count′ new′)) l ∙ ap (plain (told s line)) (A .2);
+        }
 
 -- what a call said in places is what the writer finds there
 bytes-held : (z : List ℕ) (a : KnownPiece) {w : List ℕ} → Holds z a w → bytesOf z a ≡ w
@@ -124,14 +130,10 @@ module _ {s old : List ℕ} {head : RequestHead} {new : List ℕ} (P : RequestPr
   pub request-plain-strict : request-target strict (requestOf s (head .line) .target) → request-head strict (request-form s head new) (requestOf s (head .line)) (fieldsIn s (head .count) new)
   request-plain-strict t = plain-request-strict refl request-plain t
 
-  module _ {Fit : Type 0} {out : List ℕ} {r : Plain} {out′ : List ℕ} {n : ℕ} (W : PlainPromise Fit (request-form s head new) out r out′) (w : r ≡ Written n) {old′ : List ℕ} {head′ : RequestHead} {new′ : List ℕ} (Q : RequestPromise out′ old′ head′ new′) (room : head .count ≤ length old′ / 4) where
-    -- a call on the bytes written, and whatever stands behind them, is complete at their end and gives the same fields back
-    pub request-back : (head′ .end ≡ At n) × (requestOf out′ (head′ .line) ≡ requestOf s (head .line)) × (fieldsIn out′ (head′ .count) new′ ≡ fieldsIn s (head .count) new)
-    request-back = back requestOf plain-request request-told (λ w l fs. plain-request-derived refl) P e W w Q room
-
-    -- the plain form of what was read back is the same bytes
-    pub request-again : request-form out′ head′ new′ ≡ request-form s head new
-    request-again = let b = request-back in ap (λ y. plain-request y (fieldsIn out′ (head′ .count) new′)) (b .1) ∙ ap (λ y. plain-request (requestOf s (head .line)) y) (b .2)
+  -- a call on the bytes written is complete at their end and gives the same fields back, and written again these are the same bytes
+  pub request-back : {Fit : Type 0} {out : List ℕ} {r : Plain} {out′ : List ℕ} {n : ℕ} → PlainPromise Fit (request-form s head new) out r out′ → r ≡ Written n → {old′ : List ℕ} {head′ : RequestHead} {new′ : List ℕ} → RequestPromise out′ old′ head′ new′ → head .count ≤ length old′ / 4 →
+      ReadBack requestOf plain-request s (head .line) (head .count) new n out′ (head′ .end) (head′ .line) (head′ .count) new′
+  request-back W w Q room = back requestOf plain-request request-told (λ w l fs. plain-request-derived refl) P e W w Q room
 
 -- responses
 abbrev pub ResponsePromise : List ℕ → List ℕ → ResponseHead → List ℕ → Type 0
@@ -176,14 +178,10 @@ module _ {s old : List ℕ} {head : ResponseHead} {new : List ℕ} (P : Response
   pub response-plain-strict : status-code strict (plain-code (statusOf s (head .line) .code)) (statusOf s (head .line) .code) → response-head strict (response-form s head new) (statusOf s (head .line)) (fieldsIn s (head .count) new)
   response-plain-strict c = plain-response-strict refl response-plain c
 
-  module _ {Fit : Type 0} {out : List ℕ} {r : Plain} {out′ : List ℕ} {n : ℕ} (W : PlainPromise Fit (response-form s head new) out r out′) (w : r ≡ Written n) {old′ : List ℕ} {head′ : ResponseHead} {new′ : List ℕ} (Q : ResponsePromise out′ old′ head′ new′) (room : head .count ≤ length old′ / 4) where
-    -- a call on the bytes written, and whatever stands behind them, is complete at their end and gives the same fields back
-    pub response-back : (head′ .end ≡ At n) × (statusOf out′ (head′ .line) ≡ statusOf s (head .line)) × (fieldsIn out′ (head′ .count) new′ ≡ fieldsIn s (head .count) new)
-    response-back = back statusOf plain-response status-told (λ w l fs. plain-response-derived refl refl) P e W w Q room
-
-    -- the plain form of what was read back is the same bytes
-    pub response-again : response-form out′ head′ new′ ≡ response-form s head new
-    response-again = let b = response-back in ap (λ y. plain-response y (fieldsIn out′ (head′ .count) new′)) (b .1) ∙ ap (λ y. plain-response (statusOf s (head .line)) y) (b .2)
+  -- a call on the bytes written is complete at their end and gives the same fields back, and written again these are the same bytes
+  pub response-back : {Fit : Type 0} {out : List ℕ} {r : Plain} {out′ : List ℕ} {n : ℕ} → PlainPromise Fit (response-form s head new) out r out′ → r ≡ Written n → {old′ : List ℕ} {head′ : ResponseHead} {new′ : List ℕ} → ResponsePromise out′ old′ head′ new′ → head .count ≤ length old′ / 4 →
+      ReadBack statusOf plain-response s (head .line) (head .count) new n out′ (head′ .end) (head′ .line) (head′ .count) new′
+  response-back W w Q room = back statusOf plain-response status-told (λ w l fs. plain-response-derived refl refl) P e W w Q room
 
 -- headers alone
 abbrev pub BlockPromise : List ℕ → List ℕ → Block → List ℕ → Type 0
@@ -201,11 +199,7 @@ module _ {s old : List ℕ} {block : Block} {new : List ℕ} (P : BlockPromise s
   pub headers-plain : (rules : Rules) → header-block rules (block-form s block new) (fieldsIn s (block .count) new)
   headers-plain rules = plain-block (P .complete q e .head)
 
-  module _ {Fit : Type 0} {out : List ℕ} {r : Plain} {out′ : List ℕ} {n : ℕ} (W : PlainPromise Fit (block-form s block new) out r out′) (w : r ≡ Written n) {old′ : List ℕ} {block′ : Block} {new′ : List ℕ} (Q : BlockPromise out′ old′ block′ new′) (room : block .count ≤ length old′ / 4) where
-    -- a call on the bytes written, and whatever stands behind them, is complete at their end and gives the same fields back
-    pub headers-back : (block′ .end ≡ At n) × (fieldsIn out′ (block′ .count) new′ ≡ fieldsIn s (block .count) new)
-    headers-back = let b = back (λ z k. k) (λ l fs. plain-fields fs) (λ z k w l fs h a. refl) (λ w l fs. plain-block) P e W w Q room in (b .0, b .2)
-
-    -- the plain form of what was read back is the same bytes
-    pub headers-again : block-form out′ block′ new′ ≡ block-form s block new
-    headers-again = ap plain-fields (headers-back .1)
+  -- the same of headers alone
+  pub headers-back : {Fit : Type 0} {out : List ℕ} {r : Plain} {out′ : List ℕ} {n : ℕ} → PlainPromise Fit (block-form s block new) out r out′ → r ≡ Written n → {old′ : List ℕ} {block′ : Block} {new′ : List ℕ} → BlockPromise out′ old′ block′ new′ → block .count ≤ length old′ / 4 →
+      ReadBack (λ z k. k) (λ l fs. plain-fields fs) s tt (block .count) new n out′ (block′ .end) tt (block′ .count) new′
+  headers-back W w Q room = back (λ z k. k) (λ l fs. plain-fields fs) (λ z k w l fs h a. refl) (λ w l fs. plain-block) P e W w Q room

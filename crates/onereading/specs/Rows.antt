@@ -13,12 +13,8 @@ use Rattle.rows.specs.declared.Stop.{Stop}
 use Rattle.rows.specs.declared.Stop.the-variants as stops
 use Rattle.rows.specs.Row.{Row, none, more, Stopped, all-read, full, unfinished, wrong, RowPromise}
 use Rattle.rows.specs.Reading.{head-long}
+use Rattle.onereading.specs.Statements.{OneHead, OneRow, Fitting, ReadsRow}
 use Rattle.onereading.specs.Derivation.{same-rest, one-request, one-response}
-
--- each head has at most n fields
-abbrev pub Fitting : {L : Type 0} → ℕ → List (L × List Field) → Type 0
-Fitting n [] = Unit {0}
-Fitting n (h ∷ hs) = (length (h .1) ≤ n) × Fitting n hs
 
 -- a row goes on behind its first heads
 record Onward {L : Type 0} (Head : List ℕ → L → List Field → Type 0) (at : ℕ) (rest : List ℕ) (hs gs : List (L × List Field)) (es ds : List ℕ) : Type 0 where
@@ -28,8 +24,7 @@ record Onward {L : Type 0} (Head : List ℕ → L → List Field → Type 0) (at
   pub all : gs ≡ hs ++ heads
   pub all-ends : ds ≡ es ++ ends
 
-module _ {L : Type 0} {Head : List ℕ → L → List Field → Type 0} (long : (w : List ℕ) (l : L) (fs : List Field) → Head w l fs → 1 ≤ length w)
-    (one : (v s w t : List ℕ) (l m : L) (fs gs : List Field) → v ++ s ≡ w ++ t → Head v l fs → Head w m gs → (v ≡ w) × (l ≡ m) × (fs ≡ gs)) where
+module _ {L : Type 0} {Head : List ℕ → L → List Field → Type 0} (long : (w : List ℕ) (l : L) (fs : List Field) → Head w l fs → 1 ≤ length w) (one : OneHead Head) where
   onward : {at : ℕ} {v : List ℕ} {hs : List (L × List Field)} {es : List ℕ} → Row Head at v hs es → (rest : List ℕ) {w : List ℕ} {gs : List (L × List Field)} {ds : List ℕ} → Row Head at w gs ds → w ≡ v ++ rest → Onward Head (at + length v) rest hs gs es ds
   onward {at} none rest {w} {gs} {ds} r e =
       let z : at ≡ at + 0 = omega arith in
@@ -55,8 +50,8 @@ module _ {L : Type 0} {Head : List ℕ → L → List Field → Type 0} (long : 
   row-empty (more {w = w} {v = v} {l = l} {fs = fs} h k) e = absurd (omega (arith, ap length e, length-append w v, long w l fs h))
 
   -- the same bytes are no two rows of heads
-  one-row : {at : ℕ} {v w : List ℕ} {hs gs : List (L × List Field)} {es ds : List ℕ} → Row Head at v hs es → Row Head at w gs ds → v ≡ w → (hs ≡ gs) × (es ≡ ds)
-  one-row {v = v} {hs = hs} {es = es} r q e =
+  one-row : OneRow Head
+  one-row v w hs gs es ds r q e =
       let o = onward r [] q (sym e ∙ sym (append-nil v)) in
       let z = row-empty (o .row) refl in
       (sym (o .all ∙ ap (λ y. hs ++ y) (z .0) ∙ append-nil hs), sym (o .all-ends ∙ ap (λ y. es ++ y) (z .1) ∙ append-nil es))
@@ -79,8 +74,8 @@ module _ {L : Type 0} {Head : List ℕ → L → List Field → Type 0} (long : 
   stopped-end (wrong y l) none f h = absurd (omega (arith, l))
   stopped-end (wrong y l) (more {w = w} {v = v} {l = k} {fs = fs} d q) f h = absurd (y [] w v k fs (append-nil (w ++ v)) d (f .0))
 
-  row-read : {n : ℕ} {s old : List ℕ} {r : Heads} {new : List ℕ} (P : RowPromise Head n s old r new) {hs : List (L × List Field)} {es : List ℕ} → Row Head 0 s hs es → Fitting n hs → length hs ≤ length old → (r .stop ≡ stops.End) × (P .heads ≡ hs) × (r .count ≡ length hs) × (new ≡ es ++ drop (length es) old)
-  row-read {n} {old = old} {r = r} P {hs} {es} q f h =
+  row-read : ReadsRow Head
+  row-read n s old r new P hs es q f h =
       let o = onward (P .row) (P .rest) q (P .whole) in
       let c : length hs ≡ length (P .heads) + length (o .heads) = ap length (o .all) ∙ length-append (P .heads) (o .heads) in
       let i : length (P .ends) ≡ length (P .heads) = ends-count (P .row) in
@@ -90,19 +85,14 @@ module _ {L : Type 0} {Head : List ℕ → L → List Field → Type 0} (long : 
       let b : P .ends ≡ es = sym (o .all-ends ∙ ap (λ y. P .ends ++ y) (z .1) ∙ append-nil (P .ends)) in
       (x .0, a, P .count ∙ i ∙ ap length a, P .kept ∙ ap (λ y. y ++ drop (length y) old) b)
 
--- any number of heads written one behind another, whose fields fit the slots and whose ends have room, are what the call reads: all of
--- them, in order, and no others
-module _ {n : ℕ} {s old : List ℕ} {r : Heads} {new : List ℕ} {es : List ℕ} where
-  pub requests-read : (P : RowPromise (request-head default) n s old r new) {hs : List (RequestLine × List Field)} → Row (request-head default) 0 s hs es → Fitting n hs → length hs ≤ length old → (r .stop ≡ stops.End) × (P .heads ≡ hs) × (r .count ≡ length hs) × (new ≡ es ++ drop (length es) old)
-  requests-read P q f h = row-read (λ w l fs. head-long) (λ v s w t l m fs gs. one-request v s w t) P q f h
+pub one-row-of-requests : OneRow (request-head default)
+one-row-of-requests = one-row (λ w l fs. head-long) one-request
 
-  pub responses-read : (P : RowPromise (response-head default) n s old r new) {hs : List (StatusLine × List Field)} → Row (response-head default) 0 s hs es → Fitting n hs → length hs ≤ length old → (r .stop ≡ stops.End) × (P .heads ≡ hs) × (r .count ≡ length hs) × (new ≡ es ++ drop (length es) old)
-  responses-read P q f h = row-read (λ w l fs. head-long) (λ v s w t l m fs gs. one-response v s w t) P q f h
+pub one-row-of-responses : OneRow (response-head default)
+one-row-of-responses = one-row (λ w l fs. head-long) one-response
 
--- the same bytes are no two rows of heads
-module _ {at : ℕ} {v w : List ℕ} {es ds : List ℕ} where
-  pub one-row-of-requests : {hs gs : List (RequestLine × List Field)} → Row (request-head default) at v hs es → Row (request-head default) at w gs ds → v ≡ w → (hs ≡ gs) × (es ≡ ds)
-  one-row-of-requests = one-row (λ w l fs. head-long) (λ v s w t l m fs gs. one-request v s w t)
+pub requests-read : ReadsRow (request-head default)
+requests-read = row-read (λ w l fs. head-long) one-request
 
-  pub one-row-of-responses : {hs gs : List (StatusLine × List Field)} → Row (response-head default) at v hs es → Row (response-head default) at w gs ds → v ≡ w → (hs ≡ gs) × (es ≡ ds)
-  one-row-of-responses = one-row (λ w l fs. head-long) (λ v s w t l m fs gs. one-response v s w t)
+pub responses-read : ReadsRow (response-head default)
+responses-read = row-read (λ w l fs. head-long) one-response

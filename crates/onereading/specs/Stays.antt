@@ -34,17 +34,10 @@ use Rattle.agreement.specs.Inside.{knownOf}
 use Rattle.agreement.specs.Exactly.{given-over, head-line}
 use Rattle.agreement.specs.Kept.{told-line}
 use Rattle.agreement.specs.Calls.{alone, alone-told}
+use Rattle.onereading.specs.Statements.{HeadStays}
 use Rattle.onereading.specs.Later.{Later, same, waited, later}
 use Rattle.onereading.specs.Lines.{SameRequest, request-line-grows, SameStatus, status-line-grows}
 use Rattle.onereading.specs.Blocks.{Starts, block-grows, slots-same}
-
--- what a call told on s, and what it told (with primes) on s and more bytes, over the same slots
-pub record HeadStays {K : Type 0} (Same : K → K → Type 0) (end end′ : Passed) (line line′ : K) (count count′ : ℕ) (new new′ : List ℕ) : Type 0 where
-  -- complete stays complete with the same end and fields, and an error the same error, with the same fields, count and slots
-  pub decided : (end ≡ More → ⊥) → (end′ ≡ end) × (line′ ≡ line) × (count′ ≡ count) × (new′ ≡ new)
-  -- what was known before the end was reached is unchanged
-  pub known : Same line line′
-  pub headers : (count ≤ count′) × (take (count * 4) new′ ≡ take (count * 4) new)
 
 module _ {K : Type 0} where
   told-same : {a : Heads K} {end end′ : Passed} {line line′ : K} {count count′ : ℕ} {old new new′ : List ℕ} → Told a end line count old new → Told a end′ line′ count′ old new′ → (end′ ≡ end) × (line′ ≡ line) × (count′ ≡ count) × (new′ ≡ new)
