@@ -270,3 +270,81 @@ pub fn form(call: Call, input: &[u8], answer: &Numbers, form: &mut Vec<u8>) {
     }
     form.extend_from_slice(b"\r\n");
 }
+
+#[cfg(test)]
+mod tests {
+    use super::*;
+
+    const INPUT: &[u8] = b"GET / HTTP/1.1\nA: b c \n\n";
+
+    /// The answer on INPUT: a method and a target, a version, and one header.
+    fn answer() -> Numbers {
+        let mut answer = Numbers::default();
+        answer.lend(SLOT);
+        answer.status = 0;
+        let out = [24, 1, 7, 0, 3, 4, 1, 1];
+        answer.out.numbers_mut().copy_from_slice(&out);
+        answer.slots.numbers_mut().copy_from_slice(&[15, 1, 18, 3]);
+        answer
+    }
+
+    fn go(call: Call, answer: &Numbers) -> Result<(), String> {
+        let case = Case {
+            call,
+            slots: 1,
+            remainder: 0,
+            input: INPUT,
+        };
+        RoundTrip::default().go(&case, answer)
+    }
+
+    #[test]
+    fn a_head_comes_back() {
+        assert_eq!(go(Call::Request, &answer()), Ok(()));
+        assert_eq!(go(Call::Headers, &answer()), Ok(()));
+    }
+
+    #[test]
+    fn the_form_as_its_definition_says() {
+        let mut plain = Vec::new();
+        form(Call::Request, INPUT, &answer(), &mut plain);
+        assert_eq!(plain, b"GET / HTTP/1.1\r\nA: b c\r\n\r\n");
+        let mut response = answer();
+        response.out.numbers_mut()[2..].copy_from_slice(&[28, 0, 7, 18, 3, 0]);
+        plain.clear();
+        form(Call::Response, INPUT, &response, &mut plain);
+        assert_eq!(plain, b"HTTP/1.0 007 b c\r\nA: b c\r\n\r\n");
+    }
+
+    /// Fields that no reader gives, each of which comes back as something else.
+    #[test]
+    fn fields_that_do_not_come_back_are_noticed() {
+        for (wrong, place) in [
+            ("finds other fields", [15, 1, 18, 4]),
+            ("finds other fields", [15, 1, 17, 4]),
+            ("finds other fields", [15, 2, 18, 3]),
+            ("httparse's status", [15, 0, 18, 3]),
+            ("httparse's end", [15, 1, 22, 2]),
+            ("httparse's end", [15, 1, 18, 6]),
+        ] {
+            let mut answer = answer();
+            answer.slots.numbers_mut().copy_from_slice(&place);
+            let found = go(Call::Headers, &answer).expect_err("the fields came back");
+            assert!(found.contains(wrong), "{place:?}: {found}");
+        }
+    }
+
+    #[test]
+    fn an_answer_that_is_not_complete_is_not_written() {
+        let mut incomplete = answer();
+        incomplete.status = 1;
+        let found = go(Call::Request, &incomplete).expect_err("it was written");
+        assert!(found.contains("Unwritable instead of Needs"), "{found}");
+    }
+
+    #[test]
+    fn bytes_that_were_written_are_noticed() {
+        assert_eq!(expect_untouched(&[UNTOUCHED; 3]), Ok(()));
+        assert!(expect_untouched(&[UNTOUCHED, 0]).is_err());
+    }
+}

@@ -1,7 +1,7 @@
 //! Heads one behind another: good ones, damaged ones, and cuts, with any room for slots and ends.
 
 use answers::Call;
-use compare::heads::{make, shapes, Shape};
+use compare::heads::{make, shapes, Head, Shape};
 use compare::row::{ours, theirs, FULL};
 use compare::Random;
 
@@ -23,25 +23,15 @@ fn row(shapes: &[Shape], random: &mut Random) -> (Vec<u8>, usize) {
     let mut bytes = Vec::new();
     for _ in 0..count {
         let head = make(&random.choose(shapes), random);
-        bytes.extend_from_slice(head_alone(&head.bytes));
+        bytes.extend_from_slice(&head.bytes[..end(&head)]);
     }
     (bytes, count)
 }
 
-/// The head without what stands behind it.
-fn head_alone(bytes: &[u8]) -> &[u8] {
-    let end = (1..=bytes.len()).find(|&end| is_head(&bytes[..end]));
-    &bytes[..end.expect("a head that httparse accepts")]
-}
-
-fn is_head(bytes: &[u8]) -> bool {
-    let mut headers = [httparse::EMPTY_HEADER; 100];
-    let request = httparse::Request::new(&mut headers).parse(bytes);
-    let mut headers = [httparse::EMPTY_HEADER; 100];
-    let response = httparse::Response::new(&mut headers).parse(bytes);
-    [request, response]
-        .iter()
-        .any(|result| matches!(result, Ok(status) if status.is_complete()))
+/// Where the head ends and what stands behind it begins.
+fn end(head: &Head) -> usize {
+    let alone = theirs(head.call, &head.bytes, head.headers, 1);
+    alone.ends[0] as usize
 }
 
 /// One byte is changed, or the row is cut.
