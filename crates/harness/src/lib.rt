@@ -1,4 +1,7 @@
-// The inner parts as C functions, for the Rust tests to call and for nobody else.
+// Inner parts, writers and rows as C functions, for the Rust tests to call and for nobody else.
+mod in_a_row;
+mod writers;
+
 ghost use mathlib.Core.Path.{_≡_};
 ghost use Rattle.utf8.specs.Reader.{utf8 as utf8Of};
 

@@ -1,7 +1,4 @@
 // The calls for programs in C: each answer as a number and eight more.
-mod in_a_row;
-mod writers;
-
 ghost use Prim.Native.Nat.{_≤_};
 use chunks::ChunkSize;
 use parts::Error;
@@ -19,7 +16,8 @@ fn kind(end: Passed) -> u32 {
     }
 }
 
-fn error_number(e: Error) -> u32 {
+// The same number for whoever else tells errors to C.
+pub fn error_number(e: Error) -> u32 {
     match e {
         Error::HeaderName => 2,
         Error::HeaderValue => 3,

@@ -5,7 +5,7 @@ use crate::{ours, theirs, Case};
 use answers::Call;
 
 extern "C" {
-    fn hr_plain_request(
+    fn harness_plain_request(
         start: *const u8,
         length: usize,
         slots: *const u64,
@@ -16,7 +16,7 @@ extern "C" {
         bytes: usize,
         size: *mut u64,
     ) -> u32;
-    fn hr_plain_response(
+    fn harness_plain_response(
         start: *const u8,
         length: usize,
         slots: *const u64,
@@ -27,7 +27,7 @@ extern "C" {
         bytes: usize,
         size: *mut u64,
     ) -> u32;
-    fn hr_plain_headers(
+    fn harness_plain_headers(
         start: *const u8,
         length: usize,
         slots: *const u64,
@@ -66,9 +66,9 @@ pub fn write(
     out.clear();
     out.resize(lent + GUARD, UNTOUCHED);
     let writer = match call {
-        Call::Request => hr_plain_request,
-        Call::Response => hr_plain_response,
-        _ => hr_plain_headers,
+        Call::Request => harness_plain_request,
+        Call::Response => harness_plain_response,
+        _ => harness_plain_headers,
     };
     let slots = answer.slots.numbers();
     let mut size = u64::MAX;

@@ -5,7 +5,7 @@ use crate::{theirs, Case};
 use answers::Call;
 
 extern "C" {
-    fn hr_requests(
+    fn harness_requests(
         start: *const u8,
         length: usize,
         slots: *mut u64,
@@ -14,7 +14,7 @@ extern "C" {
         heads: usize,
         out: *mut u64,
     ) -> u32;
-    fn hr_responses(
+    fn harness_responses(
         start: *const u8,
         length: usize,
         slots: *mut u64,
@@ -46,8 +46,8 @@ pub fn ours(call: Call, input: &[u8], slots: usize, heads: usize) -> Row {
     let mut ends = vec![UNTOUCHED; heads];
     let mut out = [UNTOUCHED; 2];
     let reader = match call {
-        Call::Request => hr_requests,
-        _ => hr_responses,
+        Call::Request => harness_requests,
+        _ => harness_responses,
     };
     // SAFETY: each pointer is to as many live elements as its length says, two for `out`, and
     // those to be written overlap nothing.

@@ -1,4 +1,4 @@
-// Heads in a row for programs in C.
+// Heads in a row.
 use rows::Heads;
 use rows::Stop;
 
@@ -11,13 +11,13 @@ fn told(heads: Heads, out: &mut [usize; 2]) -> u32 {
     match stop {
         Stop::End => 0,
         Stop::More => 1,
-        Stop::Bad(e) => crate::error_number(e),
+        Stop::Bad(e) => headreader::error_number(e),
         Stop::Full => 10,
     }
 }
 
 #[no_mangle]
-pub extern "C" fn hr_requests(
+pub extern "C" fn harness_requests(
     buf: &[u8],
     slots: &mut [usize],
     ends: &mut [usize],
@@ -27,7 +27,7 @@ pub extern "C" fn hr_requests(
 }
 
 #[no_mangle]
-pub extern "C" fn hr_responses(
+pub extern "C" fn harness_responses(
     buf: &[u8],
     slots: &mut [usize],
     ends: &mut [usize],

@@ -1,4 +1,4 @@
-// The writers for programs in C: they take what hr_request, hr_response or hr_headers answered.
+// The writers: they take the numbers that hr_request, hr_response or hr_headers answered.
 use blocks::Block;
 use heads::RequestHead;
 use heads::ResponseHead;
@@ -55,7 +55,7 @@ fn known_number(known: usize, bit: usize, n: usize) -> KnownNumber {
 }
 
 #[no_mangle]
-pub extern "C" fn hr_plain_request(
+pub extern "C" fn harness_plain_request(
     buf: &[u8],
     slots: &[usize],
     kind: u32,
@@ -77,7 +77,7 @@ pub extern "C" fn hr_plain_request(
 }
 
 #[no_mangle]
-pub extern "C" fn hr_plain_response(
+pub extern "C" fn harness_plain_response(
     buf: &[u8],
     slots: &[usize],
     kind: u32,
@@ -99,7 +99,7 @@ pub extern "C" fn hr_plain_response(
 }
 
 #[no_mangle]
-pub extern "C" fn hr_plain_headers(
+pub extern "C" fn harness_plain_headers(
     buf: &[u8],
     slots: &[usize],
     kind: u32,
