@@ -1,16 +1,16 @@
 -- Two heads at the start of the same bytes are one head, with the same fields; so no head is the start of another.
 -- Assumes nothing.
-use Prim.Native.Nat.{ℕ, _+_, _≤_}
+use Prim.Native.Nat.{ℕ, _+_}
 use native.Mathlib.Omega.{arith}
 use mathlib.Core.Path.{_≡_, refl, sym, ap, subst, _∙_}
-use mathlib.Core.List.{List, [], _∷_, _++_}
-use lib.ListN.{length, take, drop, length-append}
+use mathlib.Core.List.{List, _++_}
+use lib.ListN.{length, take, drop}
 use lib.Seq.{take-at, drop-at}
 use Rattle.reader.specs.Machine.{gave, run}
 use Rattle.reader.specs.Answer.{got}
 use Rattle.rules.specs.Rules.{default}
 use Rattle.grammar.specs.Fields.{Field}
-use Rattle.grammar.specs.Message.{Version, HTTP-version, one-zero, one-one, RequestLine, request-line, request-head, StatusLine, status-line, response-head, header-block}
+use Rattle.grammar.specs.Message.{Version, HTTP-version, one-zero, one-one, RequestLine, request-line, request-head, StatusLine, status-line, response-head}
 use Rattle.grammar.specs.Message as grammar
 use Rattle.grammar.specs.Chunked.{chunk-line}
 use Rattle.fields.specs.declared.Header.{Header}

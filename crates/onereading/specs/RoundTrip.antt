@@ -4,7 +4,7 @@
 use Prim.Native.Nat.{ℕ, zero, suc, _/_, _≤_}
 use native.Mathlib.Omega.{arith}
 use mathlib.Core.Path.{_≡_, refl, sym, ap, subst, _∙_}
-use mathlib.Core.List.{List, _++_}
+use mathlib.Core.List.{List}
 use mathlib.Core.Bool.{false≢true}
 use lib.ListN.{length, drop}
 use Rattle.rules.specs.Rules.{Rules, strict, default}
@@ -75,13 +75,13 @@ number-counted : (a : KnownNumber) {n : ℕ} → Counts a n → numberOf a ≡ n
 number-counted (numbers.Is a) h = h
 number-counted numbers.NotYet h = absurd h
 
-piece-lies : (z : List ℕ) (a : KnownPiece) (w : List ℕ) → Holds z a w → Inside (length z) a → Lies z a
-piece-lies z (pieces.Is a) w h i = Lies.known a i
-piece-lies z pieces.NotYet w h i = absurd h
+held-lies : (z : List ℕ) (a : KnownPiece) (w : List ℕ) → Holds z a w → Inside (length z) a → Lies z a
+held-lies z (pieces.Is a) w h i = Lies.known a i
+held-lies z pieces.NotYet w h i = absurd h
 
-number-most : (m : ℕ) (a : KnownNumber) {n : ℕ} → Counts a n → n ≤ m → AtMost m a
-number-most m (numbers.Is a) h l = AtMost.known a (omega (arith, h, l))
-number-most m numbers.NotYet h l = absurd h
+counted-most : (m : ℕ) (a : KnownNumber) {n : ℕ} → Counts a n → n ≤ m → AtMost m a
+counted-most m (numbers.Is a) h l = AtMost.known a (omega (arith, h, l))
+counted-most m numbers.NotYet h l = absurd h
 
 complete-at : {e : Passed} {q : ℕ} → e ≡ At q → Complete e
 complete-at {q = q} h = subst Complete (sym h) (Complete.at q)
@@ -117,9 +117,9 @@ module _ {s old : List ℕ} {head : RequestHead} {new : List ℕ} (P : RequestPr
       let H = P .complete q e in
       record {
         complete = complete-at e;
-        method = piece-lies s (head .line .method) (H .said .method) (H .says .method) (P .inside .0 .method);
-        target = piece-lies s (head .line .target) (H .said .target) (H .says .target) (P .inside .0 .target);
-        version = number-most 9 (head .line .version) (H .says .version) (request-digit (H .head));
+        method = held-lies s (head .line .method) (H .said .method) (H .says .method) (P .inside .0 .method);
+        target = held-lies s (head .line .target) (H .said .target) (H .says .target) (P .inside .0 .target);
+        version = counted-most 9 (head .line .version) (H .says .version) (request-digit (H .head));
         headers = record { room = omega (arith, P .within .0, P .within .1); inside = P .inside .1 };
       }
 
@@ -165,9 +165,9 @@ module _ {s old : List ℕ} {head : ResponseHead} {new : List ℕ} (P : Response
       let d = response-digits (H .head) in
       record {
         complete = complete-at e;
-        version = number-most 9 (head .line .version) (H .says .version) (d .0);
-        code = number-most 999 (head .line .code) (H .says .code) (d .1);
-        reason = piece-lies s (head .line .reason) (H .said .reason) (H .says .reason) (P .inside .0 .reason);
+        version = counted-most 9 (head .line .version) (H .says .version) (d .0);
+        code = counted-most 999 (head .line .code) (H .says .code) (d .1);
+        reason = held-lies s (head .line .reason) (H .said .reason) (H .says .reason) (P .inside .0 .reason);
         headers = record { room = omega (arith, P .within .0, P .within .1); inside = P .inside .1 };
       }
 

@@ -1,17 +1,17 @@
 -- Heads in a row: the same bytes are no two rows of heads, and reading them from each end on gives exactly those heads.
 -- Assumes nothing.
-use Prim.Native.Nat.{ℕ, _+_, _/_, _≤_}
+use Prim.Native.Nat.{ℕ, _+_, _≤_}
 use native.Mathlib.Omega.{arith}
 use mathlib.Core.Path.{_≡_, refl, sym, ap, subst, _∙_}
 use mathlib.Core.List.{List, [], _∷_, _++_, append-assoc, append-nil}
 use lib.ListN.{length, drop, length-append}
 use Rattle.rules.specs.Rules.{default}
 use Rattle.grammar.specs.Fields.{Field}
-use Rattle.grammar.specs.Message.{RequestLine, request-head, StatusLine, response-head}
+use Rattle.grammar.specs.Message.{request-head, response-head}
 use Rattle.rows.specs.declared.Heads.{Heads}
 use Rattle.rows.specs.declared.Stop.{Stop}
 use Rattle.rows.specs.declared.Stop.the-variants as stops
-use Rattle.rows.specs.Row.{Row, none, more, Stopped, all-read, full, unfinished, wrong, RowPromise}
+use Rattle.rows.specs.Row.{Row, none, more, Stopped, all-read, full, unfinished, wrong}
 use Rattle.rows.specs.Reading.{head-long}
 use Rattle.onereading.specs.Statements.{OneHead, OneRow, Fitting, ReadsRow}
 use Rattle.onereading.specs.Derivation.{same-rest, one-request, one-response}

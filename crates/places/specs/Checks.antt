@@ -1,8 +1,8 @@
 -- A test that answers whether something is so, and how the tests of a head's places come together.
 -- Assumes nothing.
-use Prim.Native.Nat.{ℕ, zero, suc, _+_, _-_, _*_, _/_, _≤_, _<_}
+use Prim.Native.Nat.{ℕ, _+_, _-_, _*_, _/_, _≤_, _<_}
 use native.Mathlib.Omega.{arith}
-use mathlib.Core.Path.{_≡_, refl, sym, ap, subst, _∙_}
+use mathlib.Core.Path.{_≡_, sym, subst}
 use mathlib.Core.List.{List}
 use mathlib.Core.Bool.{Bool, true, false, false≢true}
 use lib.ListN.{length, drop, getD}
@@ -20,7 +20,7 @@ use Rattle.heads.specs.declared.ResponseHead.{ResponseHead}
 use Rattle.blocks.specs.declared.Block.{Block}
 use Rattle.agreement.specs.Known.{SlotsInside}
 use Rattle.places.specs.Lies.{Complete, Lies, AtMost, SlotsLie, RequestLies, ResponseLies, BlockLies}
-use Rattle.places.specs.Slots.{SlotLies, inside-first, inside-rest, inside-more}
+use Rattle.places.specs.Slots.{one-more, SlotLies, inside-first, inside-rest, inside-more}
 
 -- the answer is whether P is so
 pub record Decides (P : Type 0) (b : Bool) : Type 0 where
@@ -117,23 +117,15 @@ pub checked-none : {s slots : List ℕ} {count : ℕ} → Checked s slots count 
 checked-none {count = count} = record { left = count; all = omega arith; on = λ y. y; back = λ y. y }
 
 module _ {s slots : List ℕ} {count k : ℕ} (c : Checked s slots count k) where
-  -- the headers from k on, of which there is one
-  one-more : k < count → (n : ℕ) × (c .left ≡ suc n)
-  one-more h = by (c .left) (c .all)
-    where
-      by : (m : ℕ) → count ≡ k + m → (n : ℕ) × (m ≡ suc n)
-      by zero e = absurd (omega (arith, h, e))
-      by (suc n) e = (n, refl)
-
   first-lies : k < count → SlotsLie s count slots → SlotLies (length s) slots (k * 4)
-  first-lies h y = let n = one-more h in inside-first slots k (length s) (n .0) (subst (λ m. SlotsInside (length s) m (drop (k * 4) slots)) (n .1) (c .back (y .inside)))
+  first-lies h y = let n = one-more (c .left) (c .all) h in inside-first slots k (length s) (n .0) (subst (λ m. SlotsInside (length s) m (drop (k * 4) slots)) (n .1) (c .back (y .inside)))
 
   pub slot-out : k < count → {b : Bool} → Decides (SlotLies (length s) slots (k * 4)) b → b ≡ false → Decides (SlotsLie s count slots) false
   slot-out h = without (first-lies h)
 
   pub checked-more : k < count → {b : Bool} → Decides (SlotLies (length s) slots (k * 4)) b → b ≡ true → Checked s slots count (k + 1)
   checked-more h x t =
-      let n = one-more h in
+      let n = one-more (c .left) (c .all) h in
       record {
         left = n .0;
         all = omega (arith, c .all, n .1);

@@ -1,6 +1,6 @@
 -- A header in the slots, and the headers behind it.
 -- Assumes nothing.
-use Prim.Native.Nat.{ℕ, suc, _+_, _*_, _≤_}
+use Prim.Native.Nat.{ℕ, zero, suc, _+_, _*_, _≤_, _<_}
 use native.Mathlib.Omega.{arith}
 use mathlib.Core.Path.{_≡_, refl, sym, ap, subst, _∙_}
 use mathlib.Core.List.{List, _∷_}
@@ -8,6 +8,11 @@ use lib.ListN.{take, drop, getD}
 use lib.Seq.{getD-drop, drop-drop}
 use Rattle.grammar.specs.Fields.{Field}
 use Rattle.agreement.specs.Known.{fieldsIn, SlotsInside}
+
+-- of count headers there is one from k on
+pub one-more : (left : ℕ) {count k : ℕ} → count ≡ k + left → k < count → (n : ℕ) × (left ≡ suc n)
+one-more zero e h = absurd (omega (arith, h, e))
+one-more (suc n) e h = (n, refl)
 
 -- the header of the four slots from i on
 abbrev pub fieldAt : List ℕ → List ℕ → ℕ → Field

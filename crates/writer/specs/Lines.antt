@@ -1,9 +1,9 @@
 -- The parts of a plain form, put one behind another.
 -- Assumes nothing.
-use Prim.Native.Nat.{ℕ, zero, suc, _+_, _-_, _*_, _≤_, _<_}
+use Prim.Native.Nat.{ℕ, suc, _+_, _-_, _*_, _≤_, _<_}
 use native.Mathlib.Omega.{arith}
 use mathlib.Core.Path.{_≡_, refl, sym, ap, subst, _∙_}
-use mathlib.Core.List.{List, [], _∷_, _++_, append-assoc}
+use mathlib.Core.List.{List, [], _++_, append-assoc}
 use lib.ListN.{length, take, drop}
 use Rattle.grammar.specs.Message.{CRLF}
 use Rattle.parts.specs.declared.Piece.{Piece}
@@ -16,7 +16,7 @@ use Rattle.agreement.specs.Known.{fieldsIn, SlotsInside}
 use Rattle.plain.specs.Plain.{plain-version, plain-code, plain-field, plain-fields}
 use Rattle.output.specs.Put.{Adds, adds-nothing, adds-then}
 use Rattle.places.specs.Lies.{bytesOf, numberOf, one-point, Lies, AtMost, SlotsLie}
-use Rattle.places.specs.Slots.{fieldAt, SlotLies, fields-from, inside-first, inside-rest}
+use Rattle.places.specs.Slots.{one-more, fieldAt, SlotLies, fields-from, inside-first, inside-rest}
 
 pub piece-put : (s : List ℕ) (p : Piece) {at : ℕ} {before : List ℕ} {end : ℕ} {after : List ℕ} → Adds (take (p .offset + p .length - p .offset) (drop (p .offset) s)) at before end after → Adds (held s p) at before end after
 piece-put s p {at} {before} {end} {after} a = let n : p .offset + p .length - p .offset ≡ p .length = omega arith in subst (λ y. Adds (take y (drop (p .offset) s)) at before end after) n a
@@ -57,20 +57,12 @@ pub lined-none : {s slots : List ℕ} {count at : ℕ} {before : List ℕ} → S
 lined-none {count = count} l = record { lines = []; left = count; put = adds-nothing; all = omega arith; inside = l .inside; rest = refl }
 
 module _ {s slots : List ℕ} {count at : ℕ} {before : List ℕ} {k next : ℕ} {after : List ℕ} (c : Lined s slots count at before k next after) where
-  -- the headers from k on, of which there is one
-  one-more : k < count → (n : ℕ) × (c .left ≡ suc n)
-  one-more h = by (c .left) (c .all)
-    where
-      by : (m : ℕ) → count ≡ k + m → (n : ℕ) × (m ≡ suc n)
-      by zero e = absurd (omega (arith, h, e))
-      by (suc n) e = (n, refl)
-
   pub lined-slot : k < count → SlotLies (length s) slots (k * 4)
-  lined-slot h = let n = one-more h in inside-first slots k (length s) (n .0) (subst (λ m. SlotsInside (length s) m (drop (k * 4) slots)) (n .1) (c .inside))
+  lined-slot h = let n = one-more (c .left) (c .all) h in inside-first slots k (length s) (n .0) (subst (λ m. SlotsInside (length s) m (drop (k * 4) slots)) (n .1) (c .inside))
 
   pub lined-more : k < count → {end : ℕ} {new : List ℕ} → Adds (plain-field (fieldAt s slots (k * 4))) next after end new → Lined s slots count at before (k + 1) end new
   lined-more h a =
-      let n = one-more h in
+      let n = one-more (c .left) (c .all) h in
       let i : SlotsInside (length s) (suc (n .0)) (drop (k * 4) slots) = subst (λ m. SlotsInside (length s) m (drop (k * 4) slots)) (n .1) (c .inside) in
       record {
         lines = c .lines ++ plain-field (fieldAt s slots (k * 4));
