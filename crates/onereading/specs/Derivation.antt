@@ -1,6 +1,6 @@
 -- Two heads at the start of the same bytes are one head, with the same fields; so no head is the start of another.
 -- Assumes nothing.
-use Prim.Native.Nat.{ℕ, _+_}
+use Prim.Native.Nat.{ℕ, _+_, _≤_}
 use native.Mathlib.Omega.{arith}
 use mathlib.Core.Path.{_≡_, refl, sym, ap, subst, _∙_}
 use mathlib.Core.List.{List, _++_}
@@ -10,9 +10,8 @@ use Rattle.reader.specs.Machine.{gave, run}
 use Rattle.reader.specs.Answer.{got}
 use Rattle.rules.specs.Rules.{default}
 use Rattle.grammar.specs.Fields.{Field}
-use Rattle.grammar.specs.Message.{Version, HTTP-version, one-zero, one-one, RequestLine, request-line, request-head, StatusLine, status-line, response-head}
+use Rattle.grammar.specs.Message.{Version, HTTP-version, one-zero, one-one, RequestLine, request-head, status-code, StatusLine, status-line, response-head}
 use Rattle.grammar.specs.Message as grammar
-use Rattle.grammar.specs.Chunked.{chunk-line}
 use Rattle.fields.specs.declared.Header.{Header}
 use Rattle.startline.specs.declared.KnownPiece.{KnownPiece}
 use Rattle.startline.specs.declared.KnownPiece.the-variants as pieces
@@ -29,7 +28,7 @@ use Rattle.agreement.specs.Promises.{block-alone}
 use Rattle.agreement.specs.Exactly.{Exactly}
 use Rattle.agreement.specs.Calls.{request-exactly, response-exactly, headersOf, headers-exactly}
 use Rattle.agreement.specs.Chunk.{chunk-read}
-use Rattle.onereading.specs.Statements.{OneHead}
+use Rattle.onereading.specs.Statements.{OneHead, OneChunk}
 
 -- what an answer was given for is the same on either side
 same-got : {K : Type 0} {k k′ : K} {hs hs′ : List Header} {q q′ : ℕ} → _≡_ {A = Heads K} (got (k, hs) q) (got (k′, hs′) q′) → (k ≡ k′) × (hs ≡ hs′) × (q ≡ q′)
@@ -62,19 +61,26 @@ counts-same : (a : KnownNumber) {m n : ℕ} → Counts a m → Counts a n → m 
 counts-same (numbers.Is a) h i = sym h ∙ i
 counts-same numbers.NotYet h i = absurd h
 
--- under default the major number is 1
-version-one : {w : List ℕ} {v : Version} → HTTP-version default w v → v .major ≡ 1
-version-one one-zero = refl
-version-one one-one = refl
+-- under default the major number is 1, the minor one a digit, and a code has three digits
+version-one : {w : List ℕ} {v : Version} → HTTP-version default w v → (v .major ≡ 1) × (v .minor ≤ 9)
+version-one one-zero = (refl, omega arith)
+version-one one-one = (refl, omega arith)
 version-one (grammar.HTTP-version.other t a b) = let n : _≡_ {A = ℕ} 0 1 = cc in absurd (omega arith)
 
-pub request-one : {w : List ℕ} {l : RequestLine} {fs : List Field} → request-head default w l fs → l .version .major ≡ 1
+three-digits : {w : List ℕ} {n : ℕ} → status-code default w n → n ≤ 999
+three-digits (grammar.status-code.class x y z) = omega (arith, x .high, y .high, z .high)
+three-digits (grammar.status-code.any t x y z) = omega (arith, x .high, y .high, z .high)
+
+pub request-one : {w : List ℕ} {l : RequestLine} {fs : List Field} → request-head default w l fs → (l .version .major ≡ 1) × (l .version .minor ≤ 9)
 request-one (grammar.head.message e (grammar.request-line.line m t v) c b) = version-one v
 
-pub response-one : {w : List ℕ} {l : StatusLine} {fs : List Field} → response-head default w l fs → l .version .major ≡ 1
-response-one (grammar.head.message e (grammar.status-line.reason v c x) d b) = version-one v
-response-one (grammar.head.message e (grammar.status-line.no-reason v c) d b) = version-one v
-response-one (grammar.head.message e (grammar.status-line.code-ends t v c) d b) = version-one v
+status-one : {w : List ℕ} {l : StatusLine} → status-line default w l → (l .version .major ≡ 1) × (l .version .minor ≤ 9) × (l .code ≤ 999)
+status-one (grammar.status-line.reason v c x) = let u = version-one v in (u .0, u .1, three-digits c)
+status-one (grammar.status-line.no-reason v c) = let u = version-one v in (u .0, u .1, three-digits c)
+status-one (grammar.status-line.code-ends t v c) = let u = version-one v in (u .0, u .1, three-digits c)
+
+pub response-one : {w : List ℕ} {l : StatusLine} {fs : List Field} → response-head default w l fs → (l .version .major ≡ 1) × (l .version .minor ≤ 9) × (l .code ≤ 999)
+response-one (grammar.head.message e k c b) = status-one k
 
 version-same : (u v : Version) → u .major ≡ 1 → v .major ≡ 1 → u .minor ≡ v .minor → u ≡ v
 version-same u v h i e = ap (λ y. record { major = y; minor = u .minor }) (h ∙ sym i) ∙ ap (λ y. record { major = v .major; minor = y }) e
@@ -87,7 +93,7 @@ one-request = one-head (request default) request-exactly one-line
     one-line v w l m fs gs h i z k a b =
         ap (λ y. record { method = y; target = l .target; version = l .version }) (holds-same z (k .method) (a .method) (b .method))
         ∙ ap (λ y. record { method = m .method; target = y; version = l .version }) (holds-same z (k .target) (a .target) (b .target))
-        ∙ ap (λ y. record { method = m .method; target = m .target; version = y }) (version-same (l .version) (m .version) (request-one h) (request-one i) (counts-same (k .version) (a .version) (b .version)))
+        ∙ ap (λ y. record { method = m .method; target = m .target; version = y }) (version-same (l .version) (m .version) (request-one h .0) (request-one i .0) (counts-same (k .version) (a .version) (b .version)))
 
 -- of two responses
 pub one-response : OneHead (response-head default)
@@ -95,7 +101,7 @@ one-response = one-head (response default) response-exactly one-line
   where
     one-line : (v w : List ℕ) (l m : StatusLine) (fs gs : List Field) → response-head default v l fs → response-head default w m gs → (z : List ℕ) (k : told-status.StatusLine) → StatusSays z k l → StatusSays z k m → l ≡ m
     one-line v w l m fs gs h i z k a b =
-        ap (λ y. record { version = y; code = l .code; reason = l .reason }) (version-same (l .version) (m .version) (response-one h) (response-one i) (counts-same (k .version) (a .version) (b .version)))
+        ap (λ y. record { version = y; code = l .code; reason = l .reason }) (version-same (l .version) (m .version) (response-one h .0) (response-one i .0) (counts-same (k .version) (a .version) (b .version)))
         ∙ ap (λ y. record { version = m .version; code = y; reason = l .reason }) (counts-same (k .code) (a .code) (b .code))
         ∙ ap (λ y. record { version = m .version; code = m .code; reason = y }) (holds-same z (k .reason) (a .reason) (b .reason))
 
@@ -104,8 +110,8 @@ pub one-block : OneHead block-alone
 one-block = one-head headersOf headers-exactly (λ v w l m fs gs h i z k a b. refl)
 
 -- of two chunk size lines
-pub one-chunk : (v s w t : List ℕ) {m n : ℕ} → v ++ s ≡ w ++ t → chunk-line default v m → chunk-line default w n → (v ≡ w) × (m ≡ n)
-one-chunk v s w t {m} {n} e h i =
+pub one-chunk : OneChunk
+one-chunk v s w t m n e h i =
     let u : gave m (length v) ≡ gave n (length w) = sym (chunk-read h s) ∙ ap (run (chunkStep default) (digits 0 0) 0) e ∙ chunk-read i t in
     let l : length v ≡ length w = cc in
     (same-start v s w t e l, cc)

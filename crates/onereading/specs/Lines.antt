@@ -1,7 +1,7 @@
 -- What is known of a start line stays known as bytes arrive.
 -- Assumes nothing.
 use Prim.Native.Nat.{ℕ}
-use mathlib.Core.Path.{_≡_, refl, subst}
+use mathlib.Core.Path.{refl, subst}
 use mathlib.Core.List.{List, _++_}
 use Rattle.reader.specs.Chain.{nothing}
 use Rattle.octets.specs.Class.{isToken}
@@ -29,26 +29,8 @@ use Rattle.requestline.specs.RequestLine as requests
 use Rattle.statusline.specs.declared.StatusLine.{StatusLine}
 use Rattle.statusline.specs.StatusLine as statuses
 use Rattle.agreement.specs.Inside.{knownOf}
+use Rattle.onereading.specs.Statements.{SamePiece, SameNumber, SameRequest, SameStatus}
 use Rattle.onereading.specs.Later.{Later, later, and-later, ended-later, last-keeps, last-grows, chain-keeps, chain-grows}
-
--- what was known is unchanged
-abbrev pub SamePiece : KnownPiece → KnownPiece → Type 0
-SamePiece (pieces.Is a) b = b ≡ pieces.Is a
-SamePiece pieces.NotYet b = Unit {0}
-
-abbrev pub SameNumber : KnownNumber → KnownNumber → Type 0
-SameNumber (numbers.Is a) b = b ≡ numbers.Is a
-SameNumber numbers.NotYet b = Unit {0}
-
-pub record SameRequest (k l : RequestLine) : Type 0 where
-  pub method : SamePiece (k .method) (l .method)
-  pub target : SamePiece (k .target) (l .target)
-  pub version : SameNumber (k .version) (l .version)
-
-pub record SameStatus (k l : StatusLine) : Type 0 where
-  pub version : SameNumber (k .version) (l .version)
-  pub code : SameNumber (k .code) (l .code)
-  pub reason : SamePiece (k .reason) (l .reason)
 
 piece-refl : (a : KnownPiece) → SamePiece a a
 piece-refl (pieces.Is a) = refl

@@ -1,15 +1,15 @@
 -- What was read can be written; a call on what was written is complete at its end and gives the same fields back; and written again
 -- these are the same bytes.
 -- Assumes nothing.
-use Prim.Native.Nat.{ℕ, zero, suc, _/_, _≤_}
+use Prim.Native.Nat.{ℕ, zero, suc, _/_, _≤_, _<_}
 use native.Mathlib.Omega.{arith}
 use mathlib.Core.Path.{_≡_, refl, sym, ap, subst, _∙_}
-use mathlib.Core.List.{List}
-use mathlib.Core.Bool.{false≢true}
-use lib.ListN.{length, drop}
+use mathlib.Core.List.{List, _++_}
+use lib.ListN.{length, take, drop}
+use lib.Seq.{take-at}
 use Rattle.rules.specs.Rules.{Rules, strict, default}
 use Rattle.grammar.specs.Fields.{Field}
-use Rattle.grammar.specs.Message.{Version, HTTP-version, one-zero, one-one, request-target, request-head, status-code, response-head, header-block}
+use Rattle.grammar.specs.Message.{Version, request-target, request-head, status-code, response-head, header-block}
 use Rattle.grammar.specs.Message as grammar
 use Rattle.parts.specs.declared.Passed.{Passed}
 use Rattle.parts.specs.declared.Passed.the-variants.{At}
@@ -29,8 +29,9 @@ use Rattle.plain.specs.Derived.{plain-block, plain-request-derived, plain-reque
 use Rattle.places.specs.Lies.{bytesOf, numberOf, one-point, requestOf, statusOf, Complete, Lies, AtMost, RequestLies, ResponseLies, BlockLies}
 use Rattle.writer.specs.declared.Plain.{Plain}
 use Rattle.writer.specs.declared.Plain.the-variants.{Written}
-use Rattle.writer.specs.Promise.{PlainPromise, was-written}
-use Rattle.onereading.specs.Statements.{ReadBack}
+use Rattle.output.specs.Put.{greatest}
+use Rattle.writer.specs.Promise.{request-form, response-form, block-form, PlainPromise, was-written, writes}
+use Rattle.onereading.specs.Statements.{ReadBack, WrittenAgain}
 use Rattle.onereading.specs.Derivation.{request-one, response-one}
 
 fields-counted : (z : List ℕ) (count : ℕ) (slots : List ℕ) → length (fieldsIn z count slots) ≡ count
@@ -53,18 +54,33 @@ module _ {L K : Type 0} {Head : List ℕ → L → List Field → Type 0} {Says 
         let H = P .complete q e in
         subst (λ y. Head (plain y (fieldsIn s count new)) y (fieldsIn s count new)) (sym said) (derived (H .bytes) (H .said) (fieldsIn s count new) (H .head))
 
-    -- its plain form is written over out, and read by a call with slots enough
-    back : {Fit : Type 0} {out : List ℕ} {r : Plain} {out′ : List ℕ} {n : ℕ} → PlainPromise Fit form out r out′ → r ≡ Written n → {old′ : List ℕ} {end′ : Passed} {line′ : K} {count′ : ℕ} {new′ : List ℕ} → HeadPromise Head Says In out′ old′ end′ line′ count′ new′ → count ≤ length old′ / 4 → ReadBack told plain s line count new n out′ end′ line′ count′ new′
-    back {out = out} {out′ = out′} {n = n} W w {line′ = line′} {count′ = count′} {new′ = new′} Q room =
-        let x = was-written W w in
-        let A = Q .accepts form (drop n out) (told s line) (fieldsIn s count new) (x .3) form-derived (omega (arith, room, fields-counted s count new)) in
-        let l = told-said out′ line′ form (told s line) (fieldsIn s count new) form-derived (A .1) in
-        record {
-          end = A .0 ∙ ap At (sym (x .1));
-          line-again = l;
-          fields-again = A .2;
-          plain-again = ap (λ y. plain y (fieldsIn out′ count′ new′)) l ∙ ap (plain (told s line)) (A .2);
-        }
+    -- its plain form is written over out, and what begins with the bytes written is read by a call with slots enough
+    module _ {Writable : Type 0} {out : List ℕ} {r : Plain} {out′ : List ℕ} {n : ℕ} (W : PlainPromise Writable form out r out′) (w : r ≡ Written n) where
+      bytes-written : take n out′ ≡ form
+      bytes-written = let x = was-written W w in ap (take n) (x .3) ∙ take-at form (drop n out) n (sym (x .1))
+
+      module _ (t : List ℕ) {z old′ : List ℕ} {end′ : Passed} {line′ : K} {count′ : ℕ} {new′ : List ℕ} (b : z ≡ take n out′ ++ t) (Q : HeadPromise Head Says In z old′ end′ line′ count′ new′) (room : count ≤ length old′ / 4) where
+        back : ReadBack told plain s line count new n z end′ line′ count′ new′
+        back =
+            let x = was-written W w in
+            let A = Q .accepts form t (told s line) (fieldsIn s count new) (b ∙ ap (λ y. y ++ t) bytes-written) form-derived (omega (arith, room, fields-counted s count new)) in
+            let l = told-said z line′ form (told s line) (fieldsIn s count new) form-derived (A .1) in
+            record {
+              end = A .0 ∙ ap At (sym (x .1));
+              line-again = l;
+              fields-again = A .2;
+              form-again = ap (λ y. plain y (fieldsIn z count′ new′)) l ∙ ap (plain (told s line)) (A .2);
+            }
+
+        -- and what was read back is written once more, with room enough
+        again : {Writable₂ : Type 0} {out₂ : List ℕ} {r₂ : Plain} {out₂′ : List ℕ} → PlainPromise Writable₂ (plain (told z line′) (fieldsIn z count′ new′)) out₂ r₂ out₂′ → Writable₂ → n ≤ length out₂ → length out₂ < greatest → WrittenAgain n out′ r₂ out₂′
+        again {out₂ = out₂} {out₂′ = out₂′} X v h g =
+            let x = was-written W w in
+            let f = back .form-again in
+            let m : length (plain (told z line′) (fieldsIn z count′ new′)) ≡ n = ap length f ∙ sym (x .1) in
+            let e = writes X v (omega (arith, m, h)) g ∙ ap Written m in
+            let y = was-written X e in
+            (e, ap (take n) (y .3) ∙ take-at (plain (told z line′) (fieldsIn z count′ new′)) (drop n out₂) n m ∙ f ∙ sym bytes-written)
 
 -- what a call said in places is what the writer finds there
 bytes-held : (z : List ℕ) (a : KnownPiece) {w : List ℕ} → Holds z a w → bytesOf z a ≡ w
@@ -83,23 +99,12 @@ counted-most : (m : ℕ) (a : KnownNumber) {n : ℕ} → Counts a n → n ≤ m 
 counted-most m (numbers.Is a) h l = AtMost.known a (omega (arith, h, l))
 counted-most m numbers.NotYet h l = absurd h
 
-complete-at : {e : Passed} {q : ℕ} → e ≡ At q → Complete e
-complete-at {q = q} h = subst Complete (sym h) (Complete.at q)
+reached : {e : Passed} {q : ℕ} → e ≡ At q → Complete e
+reached {q = q} h = subst Complete (sym h) (Complete.at q)
 
--- requests: a call's promise, and the plain form of what it read
+-- requests: a call's promise
 abbrev pub RequestPromise : List ℕ → List ℕ → RequestHead → List ℕ → Type 0
 RequestPromise s old head new = HeadPromise (request-head default) RequestSays RequestInside s old (head .end) (head .line) (head .count) new
-
-abbrev pub request-form : List ℕ → RequestHead → List ℕ → List ℕ
-request-form s head slots = plain-request (requestOf s (head .line)) (fieldsIn s (head .count) slots)
-
-minor-digit : {w : List ℕ} {v : Version} → HTTP-version default w v → v .minor ≤ 9
-minor-digit one-zero = omega arith
-minor-digit one-one = omega arith
-minor-digit (grammar.HTTP-version.other t a b) = absurd (false≢true (sym t))
-
-request-digit : {w : List ℕ} {l : grammar.RequestLine} {fs : List Field} → request-head default w l fs → l .version .minor ≤ 9
-request-digit (grammar.head.message e (grammar.request-line.line m t v) c b) = minor-digit v
 
 version-is : (n : ℕ) (v : Version) → v .major ≡ 1 → n ≡ v .minor → one-point n ≡ v
 version-is n v h e = ap (λ y. record { major = y; minor = n }) (sym h) ∙ ap (λ y. record { major = v .major; minor = y }) e
@@ -108,7 +113,7 @@ request-told : (z : List ℕ) (k : RequestLine) (w : List ℕ) (l : grammar.Requ
 request-told z k w l fs h a =
     ap (λ y. record { method = y; target = bytesOf z (k .target); version = one-point (numberOf (k .version)) }) (bytes-held z (k .method) (a .method))
     ∙ ap (λ y. record { method = l .method; target = y; version = one-point (numberOf (k .version)) }) (bytes-held z (k .target) (a .target))
-    ∙ ap (λ y. record { method = l .method; target = l .target; version = y }) (version-is (numberOf (k .version)) (l .version) (request-one h) (number-counted (k .version) (a .version)))
+    ∙ ap (λ y. record { method = l .method; target = l .target; version = y }) (version-is (numberOf (k .version)) (l .version) (request-one h .0) (number-counted (k .version) (a .version)))
 
 module _ {s old : List ℕ} {head : RequestHead} {new : List ℕ} (P : RequestPromise s old head new) {q : ℕ} (e : head .end ≡ At q) where
   -- every complete answer can be written
@@ -116,10 +121,10 @@ module _ {s old : List ℕ} {head : RequestHead} {new : List ℕ} (P : RequestPr
   request-writable =
       let H = P .complete q e in
       record {
-        complete = complete-at e;
+        complete = reached e;
         method = held-lies s (head .line .method) (H .said .method) (H .says .method) (P .inside .0 .method);
         target = held-lies s (head .line .target) (H .said .target) (H .says .target) (P .inside .0 .target);
-        version = counted-most 9 (head .line .version) (H .says .version) (request-digit (H .head));
+        version = counted-most 9 (head .line .version) (H .says .version) (request-one (H .head) .1);
         headers = record { room = omega (arith, P .within .0, P .within .1); inside = P .inside .1 };
       }
 
@@ -128,32 +133,24 @@ module _ {s old : List ℕ} {head : RequestHead} {new : List ℕ} (P : RequestPr
   request-plain = form-derived requestOf plain-request request-told (λ w l fs. plain-request-derived refl) P e
 
   pub request-plain-strict : request-target strict (requestOf s (head .line) .target) → request-head strict (request-form s head new) (requestOf s (head .line)) (fieldsIn s (head .count) new)
-  request-plain-strict t = plain-request-strict refl request-plain t
+  request-plain-strict t = plain-request-strict request-plain t
 
-  -- a call on the bytes written is complete at their end and gives the same fields back, and written again these are the same bytes
-  pub request-back : {Fit : Type 0} {out : List ℕ} {r : Plain} {out′ : List ℕ} {n : ℕ} → PlainPromise Fit (request-form s head new) out r out′ → r ≡ Written n → {old′ : List ℕ} {head′ : RequestHead} {new′ : List ℕ} → RequestPromise out′ old′ head′ new′ → head .count ≤ length old′ / 4 →
-      ReadBack requestOf plain-request s (head .line) (head .count) new n out′ (head′ .end) (head′ .line) (head′ .count) new′
-  request-back W w Q room = back requestOf plain-request request-told (λ w l fs. plain-request-derived refl) P e W w Q room
+module _ {s old : List ℕ} {head : RequestHead} {new : List ℕ} (P : RequestPromise s old head new) {q : ℕ} (e : head .end ≡ At q) {Writable : Type 0} {out : List ℕ} {r : Plain} {out′ : List ℕ} {n : ℕ} (W : PlainPromise Writable (request-form s head new) out r out′) (w : r ≡ Written n) (t : List ℕ) {z old′ : List ℕ} {head′ : RequestHead} {new′ : List ℕ} (b : z ≡ take n out′ ++ t) (Q : RequestPromise z old′ head′ new′) (room : head .count ≤ length old′ / 4) where
+  -- a call on the bytes written, with anything behind them, is complete at their end and gives the same fields back
+  pub request-back : ReadBack requestOf plain-request s (head .line) (head .count) new n z (head′ .end) (head′ .line) (head′ .count) new′
+  request-back = back requestOf plain-request request-told (λ w l fs. plain-request-derived refl) P e W w t b Q room
+
+  -- what was read back is written as the same bytes
+  pub request-again : {out₂ : List ℕ} {r₂ : Plain} {out₂′ : List ℕ} → PlainPromise (RequestLies z head′ new′) (request-form z head′ new′) out₂ r₂ out₂′ → n ≤ length out₂ → length out₂ < greatest → WrittenAgain n out′ r₂ out₂′
+  request-again X h g = again requestOf plain-request request-told (λ w l fs. plain-request-derived refl) P e W w t b Q room X (request-writable Q (request-back .end)) h g
 
 -- responses
 abbrev pub ResponsePromise : List ℕ → List ℕ → ResponseHead → List ℕ → Type 0
 ResponsePromise s old head new = HeadPromise (response-head default) StatusSays StatusInside s old (head .end) (head .line) (head .count) new
 
-abbrev pub response-form : List ℕ → ResponseHead → List ℕ → List ℕ
-response-form s head slots = plain-response (statusOf s (head .line)) (fieldsIn s (head .count) slots)
-
-three-digits : {w : List ℕ} {n : ℕ} → status-code default w n → n ≤ 999
-three-digits (grammar.status-code.class x y z) = omega (arith, x .high, y .high, z .high)
-three-digits (grammar.status-code.any t x y z) = omega (arith, x .high, y .high, z .high)
-
-response-digits : {w : List ℕ} {l : grammar.StatusLine} {fs : List Field} → response-head default w l fs → (l .version .minor ≤ 9) × (l .code ≤ 999)
-response-digits (grammar.head.message e (grammar.status-line.reason v c x) d b) = (minor-digit v, three-digits c)
-response-digits (grammar.head.message e (grammar.status-line.no-reason v c) d b) = (minor-digit v, three-digits c)
-response-digits (grammar.head.message e (grammar.status-line.code-ends t v c) d b) = (minor-digit v, three-digits c)
-
 status-told : (z : List ℕ) (k : StatusLine) (w : List ℕ) (l : grammar.StatusLine) (fs : List Field) → response-head default w l fs → StatusSays z k l → statusOf z k ≡ l
 status-told z k w l fs h a =
-    ap (λ y. record { version = y; code = numberOf (k .code); reason = bytesOf z (k .reason) }) (version-is (numberOf (k .version)) (l .version) (response-one h) (number-counted (k .version) (a .version)))
+    ap (λ y. record { version = y; code = numberOf (k .code); reason = bytesOf z (k .reason) }) (version-is (numberOf (k .version)) (l .version) (response-one h .0) (number-counted (k .version) (a .version)))
     ∙ ap (λ y. record { version = l .version; code = y; reason = bytesOf z (k .reason) }) (number-counted (k .code) (a .code))
     ∙ ap (λ y. record { version = l .version; code = l .code; reason = y }) (bytes-held z (k .reason) (a .reason))
 
@@ -162,11 +159,11 @@ module _ {s old : List ℕ} {head : ResponseHead} {new : List ℕ} (P : Response
   pub response-writable : ResponseLies s head new
   response-writable =
       let H = P .complete q e in
-      let d = response-digits (H .head) in
+      let d = response-one (H .head) in
       record {
-        complete = complete-at e;
-        version = counted-most 9 (head .line .version) (H .says .version) (d .0);
-        code = counted-most 999 (head .line .code) (H .says .code) (d .1);
+        complete = reached e;
+        version = counted-most 9 (head .line .version) (H .says .version) (d .1);
+        code = counted-most 999 (head .line .code) (H .says .code) (d .2);
         reason = held-lies s (head .line .reason) (H .said .reason) (H .says .reason) (P .inside .0 .reason);
         headers = record { room = omega (arith, P .within .0, P .within .1); inside = P .inside .1 };
       }
@@ -176,30 +173,35 @@ module _ {s old : List ℕ} {head : ResponseHead} {new : List ℕ} (P : Response
   response-plain = form-derived statusOf plain-response status-told (λ w l fs. plain-response-derived refl refl) P e
 
   pub response-plain-strict : status-code strict (plain-code (statusOf s (head .line) .code)) (statusOf s (head .line) .code) → response-head strict (response-form s head new) (statusOf s (head .line)) (fieldsIn s (head .count) new)
-  response-plain-strict c = plain-response-strict refl response-plain c
+  response-plain-strict c = plain-response-strict response-plain c
 
-  -- a call on the bytes written is complete at their end and gives the same fields back, and written again these are the same bytes
-  pub response-back : {Fit : Type 0} {out : List ℕ} {r : Plain} {out′ : List ℕ} {n : ℕ} → PlainPromise Fit (response-form s head new) out r out′ → r ≡ Written n → {old′ : List ℕ} {head′ : ResponseHead} {new′ : List ℕ} → ResponsePromise out′ old′ head′ new′ → head .count ≤ length old′ / 4 →
-      ReadBack statusOf plain-response s (head .line) (head .count) new n out′ (head′ .end) (head′ .line) (head′ .count) new′
-  response-back W w Q room = back statusOf plain-response status-told (λ w l fs. plain-response-derived refl refl) P e W w Q room
+module _ {s old : List ℕ} {head : ResponseHead} {new : List ℕ} (P : ResponsePromise s old head new) {q : ℕ} (e : head .end ≡ At q) {Writable : Type 0} {out : List ℕ} {r : Plain} {out′ : List ℕ} {n : ℕ} (W : PlainPromise Writable (response-form s head new) out r out′) (w : r ≡ Written n) (t : List ℕ) {z old′ : List ℕ} {head′ : ResponseHead} {new′ : List ℕ} (b : z ≡ take n out′ ++ t) (Q : ResponsePromise z old′ head′ new′) (room : head .count ≤ length old′ / 4) where
+  -- a call on the bytes written, with anything behind them, is complete at their end and gives the same fields back
+  pub response-back : ReadBack statusOf plain-response s (head .line) (head .count) new n z (head′ .end) (head′ .line) (head′ .count) new′
+  response-back = back statusOf plain-response status-told (λ w l fs. plain-response-derived refl refl) P e W w t b Q room
+
+  -- what was read back is written as the same bytes
+  pub response-again : {out₂ : List ℕ} {r₂ : Plain} {out₂′ : List ℕ} → PlainPromise (ResponseLies z head′ new′) (response-form z head′ new′) out₂ r₂ out₂′ → n ≤ length out₂ → length out₂ < greatest → WrittenAgain n out′ r₂ out₂′
+  response-again X h g = again statusOf plain-response status-told (λ w l fs. plain-response-derived refl refl) P e W w t b Q room X (response-writable Q (response-back .end)) h g
 
 -- headers alone
 abbrev pub BlockPromise : List ℕ → List ℕ → Block → List ℕ → Type 0
 BlockPromise s old block new = HeadPromise block-alone says-nothing lies-nowhere s old (block .end) tt (block .count) new
 
-abbrev pub block-form : List ℕ → Block → List ℕ → List ℕ
-block-form s block slots = plain-fields (fieldsIn s (block .count) slots)
-
 module _ {s old : List ℕ} {block : Block} {new : List ℕ} (P : BlockPromise s old block new) {q : ℕ} (e : block .end ≡ At q) where
   -- every complete answer can be written
   pub headers-writable : BlockLies s block new
-  headers-writable = record { complete = complete-at e; headers = record { room = omega (arith, P .within .0, P .within .1); inside = P .inside .1 } }
+  headers-writable = record { complete = reached e; headers = record { room = omega (arith, P .within .0, P .within .1); inside = P .inside .1 } }
 
   -- what is written is a block under strict with the same fields, and so under all rules
   pub headers-plain : (rules : Rules) → header-block rules (block-form s block new) (fieldsIn s (block .count) new)
   headers-plain rules = plain-block (P .complete q e .head)
 
-  -- the same of headers alone
-  pub headers-back : {Fit : Type 0} {out : List ℕ} {r : Plain} {out′ : List ℕ} {n : ℕ} → PlainPromise Fit (block-form s block new) out r out′ → r ≡ Written n → {old′ : List ℕ} {block′ : Block} {new′ : List ℕ} → BlockPromise out′ old′ block′ new′ → block .count ≤ length old′ / 4 →
-      ReadBack (λ z k. k) (λ l fs. plain-fields fs) s tt (block .count) new n out′ (block′ .end) tt (block′ .count) new′
-  headers-back W w Q room = back (λ z k. k) (λ l fs. plain-fields fs) (λ z k w l fs h a. refl) (λ w l fs. plain-block) P e W w Q room
+module _ {s old : List ℕ} {block : Block} {new : List ℕ} (P : BlockPromise s old block new) {q : ℕ} (e : block .end ≡ At q) {Writable : Type 0} {out : List ℕ} {r : Plain} {out′ : List ℕ} {n : ℕ} (W : PlainPromise Writable (block-form s block new) out r out′) (w : r ≡ Written n) (t : List ℕ) {z old′ : List ℕ} {block′ : Block} {new′ : List ℕ} (b : z ≡ take n out′ ++ t) (Q : BlockPromise z old′ block′ new′) (room : block .count ≤ length old′ / 4) where
+  -- a call on the bytes written, with anything behind them, is complete at their end and gives the same fields back
+  pub headers-back : ReadBack {L = Unit {0}} {K = Unit {0}} (λ z k. k) (λ l fs. plain-fields fs) s tt (block .count) new n z (block′ .end) tt (block′ .count) new′
+  headers-back = back (λ z k. k) (λ l fs. plain-fields fs) (λ z k w l fs h a. refl) (λ w l fs. plain-block) P e W w t b Q room
+
+  -- what was read back is written as the same bytes
+  pub headers-again : {out₂ : List ℕ} {r₂ : Plain} {out₂′ : List ℕ} → PlainPromise (BlockLies z block′ new′) (block-form z block′ new′) out₂ r₂ out₂′ → n ≤ length out₂ → length out₂ < greatest → WrittenAgain n out′ r₂ out₂′
+  headers-again X h g = again (λ z k. k) (λ l fs. plain-fields fs) (λ z k w l fs h a. refl) (λ w l fs. plain-block) P e W w t b Q room X (headers-writable Q (headers-back .end)) h g

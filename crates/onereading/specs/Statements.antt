@@ -4,16 +4,52 @@ use Prim.Native.Nat.{ℕ, _*_, _≤_}
 use mathlib.Core.Path.{_≡_}
 use mathlib.Core.List.{List, [], _∷_, _++_}
 use lib.ListN.{length, take, drop}
+use Rattle.rules.specs.Rules.{default}
 use Rattle.grammar.specs.Fields.{Field}
+use Rattle.grammar.specs.Chunked.{chunk-line}
 use Rattle.parts.specs.declared.Passed.{Passed}
 use Rattle.parts.specs.declared.Passed.the-variants.{At, More}
+use Rattle.startline.specs.declared.KnownPiece.{KnownPiece}
+use Rattle.startline.specs.declared.KnownPiece.the-variants as pieces
+use Rattle.startline.specs.declared.KnownNumber.{KnownNumber}
+use Rattle.startline.specs.declared.KnownNumber.the-variants as numbers
+use Rattle.requestline.specs.declared.RequestLine.{RequestLine}
+use Rattle.statusline.specs.declared.StatusLine.{StatusLine}
+use Rattle.heads.specs.Head.{Heads}
+use Rattle.chunks.specs.declared.ChunkSize.{ChunkSize}
+use Rattle.chunks.specs.declared.ChunkSize.the-variants as sizes
 use Rattle.agreement.specs.Known.{fieldsIn}
-use Rattle.rows.specs.declared.Heads.{Heads}
+use Rattle.writer.specs.declared.Plain.{Plain}
+use Rattle.writer.specs.declared.Plain.the-variants.{Written}
+use Rattle.rows.specs.declared.RowRead.{RowRead}
 use Rattle.rows.specs.declared.Stop.the-variants as stops
 use Rattle.rows.specs.Row.{Row, RowPromise}
 
+-- What was known of a part of a start line is unchanged
+abbrev pub SamePiece : KnownPiece → KnownPiece → Type 0
+SamePiece (pieces.Is a) b = b ≡ pieces.Is a
+SamePiece pieces.NotYet b = Unit {0}
+
+abbrev pub SameNumber : KnownNumber → KnownNumber → Type 0
+SameNumber (numbers.Is a) b = b ≡ numbers.Is a
+SameNumber numbers.NotYet b = Unit {0}
+
+pub record SameRequest (k l : RequestLine) : Type 0 where
+  pub method : SamePiece (k .method) (l .method)
+  pub target : SamePiece (k .target) (l .target)
+  pub version : SameNumber (k .version) (l .version)
+
+pub record SameStatus (k l : StatusLine) : Type 0 where
+  pub version : SameNumber (k .version) (l .version)
+  pub code : SameNumber (k .code) (l .code)
+  pub reason : SamePiece (k .reason) (l .reason)
+
+-- headers alone have no start line
+abbrev pub NoLine : Unit {0} → Unit {0} → Type 0
+NoLine k l = Unit {0}
+
 -- An answer never changes when more bytes arrive: what a call told on s, and what it told (with primes) on s and more bytes, over the
--- same slots. Same says that what was known of a start line is unchanged.
+-- same slots. Same is SameRequest, SameStatus or NoLine.
 pub record HeadStays {K : Type 0} (Same : K → K → Type 0) (end end′ : Passed) (line line′ : K) (count count′ : ℕ) (new new′ : List ℕ) : Type 0 where
   -- complete stays complete with the same end and fields, and an error the same error, with the same fields, count and slots
   pub decided : (end ≡ More → ⊥) → (end′ ≡ end) × (line′ ≡ line) × (count′ ≡ count) × (new′ ≡ new)
@@ -21,9 +57,17 @@ pub record HeadStays {K : Type 0} (Same : K → K → Type 0) (end end′ : Pass
   pub known : Same line line′
   pub headers : (count ≤ count′) × (take (count * 4) new′ ≡ take (count * 4) new)
 
+-- the same of a chunk size line: only an incomplete one may become something else
+abbrev pub ChunkStays : ChunkSize → ChunkSize → Type 0
+ChunkStays r r′ = (r ≡ sizes.Incomplete → ⊥) → r′ ≡ r
+
 -- One derivation: two heads that begin the same bytes are one head, and say the same
 abbrev pub OneHead : {L : Type 0} → (List ℕ → L → List Field → Type 0) → Type 0
 OneHead {L} Head = (v s w t : List ℕ) (l m : L) (fs gs : List Field) → v ++ s ≡ w ++ t → Head v l fs → Head w m gs → (v ≡ w) × (l ≡ m) × (fs ≡ gs)
+
+-- and two chunk size lines are one, with the same size
+abbrev pub OneChunk : Type 0
+OneChunk = (v s w t : List ℕ) (m n : ℕ) → v ++ s ≡ w ++ t → chunk-line default v m → chunk-line default w n → (v ≡ w) × (m ≡ n)
 
 -- Heads in a row: the same bytes are no two rows of heads
 abbrev pub OneRow : {L : Type 0} → (List ℕ → L → List Field → Type 0) → Type 0
@@ -36,17 +80,26 @@ Fitting n (h ∷ hs) = (length (h .1) ≤ n) × Fitting n hs
 
 -- and the call that reads a row of heads, whose fields fit the slots and whose ends have room, reads all of them and no others: it
 -- stops at the end of the input, the heads are those, in order, and their ends are in their places
-abbrev pub ReadsRow : {L : Type 0} → (List ℕ → L → List Field → Type 0) → Type 0
-ReadsRow {L} Head = (n : ℕ) (s old : List ℕ) (r : Heads) (new : List ℕ) (P : RowPromise Head n s old r new) (hs : List (L × List Field)) (es : List ℕ) → Row Head 0 s hs es → Fitting n hs → length hs ≤ length old →
-    (r .stop ≡ stops.End) × (P .heads ≡ hs) × (r .count ≡ length hs) × (new ≡ es ++ drop (length es) old)
+abbrev pub ReadsRow : {L K : Type 0} → (List ℕ → L → List Field → Type 0) → (ℕ → List ℕ → Heads K) → Type 0
+ReadsRow {L} Head read = (n : ℕ) (s old : List ℕ) (r : RowRead) (new : List ℕ) (P : RowPromise Head read n s old r new) (hs : List (L × List Field)) (es : List ℕ) → Row Head 0 s hs es → Fitting n hs → length hs ≤ length old →
+    (r .stop ≡ stops.End) × (r .end ≡ length s) × (P .heads ≡ hs) × (r .count ≡ length hs) × (new ≡ es ++ drop (length es) old)
 
--- The plain form: told is what a call tells of a start line, and plain the form of a line and fields. A call on s was complete; the
--- form of what it read, n bytes, was written into the bytes out, and a call on these (with primes) read them.
-pub record ReadBack {L K : Type 0} (told : List ℕ → K → L) (plain : L → List Field → List ℕ) (s : List ℕ) (line : K) (count : ℕ) (new : List ℕ) (n : ℕ) (out : List ℕ) (end′ : Passed) (line′ : K) (count′ : ℕ) (new′ : List ℕ) : Type 0 where
-  -- the second call is complete where the writer stopped, whatever stands behind that
+-- whatever bytes t follow the row, its heads are the first that are read
+abbrev pub ReadsFirst : {L K : Type 0} → (List ℕ → L → List Field → Type 0) → (ℕ → List ℕ → Heads K) → Type 0
+ReadsFirst {L} Head read = (n : ℕ) (v t old : List ℕ) (r : RowRead) (new : List ℕ) (P : RowPromise Head read n (v ++ t) old r new) (hs : List (L × List Field)) (es : List ℕ) → Row Head 0 v hs es → Fitting n hs → length hs ≤ length old →
+    (more : List (L × List Field)) × (ends : List ℕ) × (P .heads ≡ hs ++ more) × (P .ends ≡ es ++ ends)
+
+-- The plain form: told is what a call tells of a start line, and plain the form of a line and fields. A call on s was complete, the
+-- form of what it read was written, n bytes, and a call (with primes) was made on z, which begins with these.
+pub record ReadBack {L K : Type 0} (told : List ℕ → K → L) (plain : L → List Field → List ℕ) (s : List ℕ) (line : K) (count : ℕ) (new : List ℕ) (n : ℕ) (z : List ℕ) (end′ : Passed) (line′ : K) (count′ : ℕ) (new′ : List ℕ) : Type 0 where
+  -- the second call is complete where the writer stopped
   pub end : end′ ≡ At n
   -- it gives the same fields back, byte for byte
-  pub line-again : told out line′ ≡ told s line
-  pub fields-again : fieldsIn out count′ new′ ≡ fieldsIn s count new
-  -- written out again, these are the same bytes
-  pub plain-again : plain (told out line′) (fieldsIn out count′ new′) ≡ plain (told s line) (fieldsIn s count new)
+  pub line-again : told z line′ ≡ told s line
+  pub fields-again : fieldsIn z count′ new′ ≡ fieldsIn s count new
+  -- and so what it read has the same plain form
+  pub form-again : plain (told z line′) (fieldsIn z count′ new′) ≡ plain (told s line) (fieldsIn s count new)
+
+-- Plain of plain is plain: what was read back is written with the answer r into bytes that become again, and out had the first form
+abbrev pub WrittenAgain : ℕ → List ℕ → Plain → List ℕ → Type 0
+WrittenAgain n out r again = (r ≡ Written n) × (take n again ≡ take n out)

@@ -34,9 +34,9 @@ use Rattle.agreement.specs.Inside.{knownOf}
 use Rattle.agreement.specs.Exactly.{given-over, head-line}
 use Rattle.agreement.specs.Kept.{told-line}
 use Rattle.agreement.specs.Calls.{alone, alone-told}
-use Rattle.onereading.specs.Statements.{HeadStays}
+use Rattle.onereading.specs.Statements.{SameRequest, SameStatus, NoLine, HeadStays, ChunkStays}
 use Rattle.onereading.specs.Later.{Later, same, waited, later}
-use Rattle.onereading.specs.Lines.{SameRequest, request-line-grows, SameStatus, status-line-grows}
+use Rattle.onereading.specs.Lines.{request-line-grows, status-line-grows}
 use Rattle.onereading.specs.Blocks.{Starts, block-grows, slots-same}
 
 module _ {K : Type 0} where
@@ -110,10 +110,6 @@ alone-later : {a b : blocks.Blocks} → Later a b → Later (alone a) (alone b)
 alone-later same = same
 alone-later waited = waited
 
--- there is no start line to be told
-abbrev pub NoLine : Unit {0} → Unit {0} → Type 0
-NoLine k l = Unit {0}
-
 pub headers-stays : (n : ℕ) (s t : List ℕ) {r r′ : Block} {old new new′ : List ℕ} → blocks.Told (block default n [] s 0) r old new → blocks.Told (block default n [] (s ++ t) 0) r′ old new′ → HeadStays NoLine (r .end) (r′ .end) tt tt (r .count) (r′ .count) new new′
 headers-stays n s t T U =
     stays NoLine (alone-later (later (lapwise (λ hs _. hs)) (blockStep default n) ([], fresh) s t 0)) tt
@@ -141,5 +137,5 @@ chunk-by : {a b : Answer (Unit {0}) ℕ (Unit {0})} {r r′ : ChunkSize} → Lat
 chunk-by {r = r} {r′ = r′} same T U n = size-same r r′ (T ∙ sym U)
 chunk-by {r = r} waited T U n = absurd (n (size-waits r T))
 
-pub chunk-stays : (s t : List ℕ) {r r′ : ChunkSize} → sizeOf r ≡ chunk default s → sizeOf r′ ≡ chunk default (s ++ t) → (r ≡ sizes.Incomplete → ⊥) → r′ ≡ r
+pub chunk-stays : (s t : List ℕ) {r r′ : ChunkSize} → sizeOf r ≡ chunk default s → sizeOf r′ ≡ chunk default (s ++ t) → ChunkStays r r′
 chunk-stays s t T U n = chunk-by (later nothing (chunkStep default) (digits 0 0) s t 0) T U n

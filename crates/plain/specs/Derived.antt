@@ -39,6 +39,12 @@ version-known k one-zero = one-zero
 version-known k one-one = one-one
 version-known k (grammar.HTTP-version.other t x y) = absurd (false≢true (sym t ∙ k))
 
+-- and under strict all are
+version-strict : {r : Rules} {w : List ℕ} {v : Version} → HTTP-version r w v → HTTP-version strict (plain-version v) v
+version-strict one-zero = one-zero
+version-strict one-one = one-one
+version-strict (grammar.HTTP-version.other t x y) = version-plain (grammar.HTTP-version.other refl x y)
+
 target-default : {r : Rules} {t : List ℕ} → request-target r t → request-target default t
 target-default (grammar.request-target.visible h) = grammar.request-target.visible h
 target-default (grammar.request-target.any t h u) = grammar.request-target.any refl h u
@@ -57,8 +63,8 @@ module _ {r : Rules} {w : List ℕ} {l : RequestLine} {fs : List Field} where
   plain-request-derived k h = request-under h target-default (λ v. version-known k)
 
   -- under strict, if the target is
-  pub plain-request-strict : r .known-versions ≡ true → request-head r w l fs → request-target strict (l .target) → request-head strict (plain-request l fs) l fs
-  plain-request-strict k h t = request-under h (λ _. t) (λ v. version-known k)
+  pub plain-request-strict : request-head r w l fs → request-target strict (l .target) → request-head strict (plain-request l fs) l fs
+  plain-request-strict h t = request-under h (λ _. t) (λ v. version-strict)
 
 -- three digits are those of their number
 module _ {a b c : ℕ} (x : DIGIT a) (y : DIGIT b) (z : DIGIT c) where
@@ -114,5 +120,5 @@ module _ {r : Rules} {w : List ℕ} {l : StatusLine} {fs : List Field} where
   plain-response-derived k o h = response-under h (λ v. version-known k) (λ c. code-default) (λ t x. absurd (false≢true (sym t ∙ o)))
 
   -- under strict, if the code is
-  pub plain-response-strict : r .known-versions ≡ true → response-head r w l fs → status-code strict (plain-code (l .code)) (l .code) → response-head strict (plain-response l fs) l fs
-  plain-response-strict k h d = response-under h (λ v. version-known k) (λ _ _. d) (λ t x. grammar.reason-phrase.whole refl x)
+  pub plain-response-strict : response-head r w l fs → status-code strict (plain-code (l .code)) (l .code) → response-head strict (plain-response l fs) l fs
+  plain-response-strict h d = response-under h (λ v. version-strict) (λ _ _. d) (λ t x. grammar.reason-phrase.whole refl x)

@@ -1,11 +1,11 @@
--- The plain form of a head: its fields written with no more than the RFCs ask for, and nothing that is a leniency.
+-- The plain form of a head: its fields written with no more than the RFCs ask for, and no leniency but those that a field itself has.
 -- Assumes nothing.
 use Prim.Native.Nat.{ℕ, _+_, _/_, _%_}
 use mathlib.Core.List.{List, [], _∷_, _++_}
 use Rattle.grammar.specs.Fields.{Field}
 use Rattle.grammar.specs.Message.{space, colon, CRLF, Version, HTTP-name, RequestLine, StatusLine}
 
--- HTTP/1.v, where the minor number is a digit
+-- HTTP/ and two digits with a dot between, of which the first is 1 under default
 abbrev pub plain-version : Version → List ℕ
 plain-version v = HTTP-name ++ (0x2F ∷ (0x30 + v .major) ∷ 0x2E ∷ (0x30 + v .minor) ∷ [])
 

@@ -6,7 +6,11 @@ use mathlib.Core.List.{List, [], _∷_, _++_}
 use lib.ListN.{length, drop}
 use Rattle.grammar.specs.Fields.{Field}
 use Rattle.parts.specs.declared.Error.{Error}
-use Rattle.rows.specs.declared.Heads.{Heads}
+use Rattle.parts.specs.declared.Passed.{Passed}
+use Rattle.parts.specs.declared.Passed.the-variants.{More, Bad}
+use Rattle.startline.specs.Answers.{tell}
+use Rattle.heads.specs.Head.{Heads, Known}
+use Rattle.rows.specs.declared.RowRead.{RowRead}
 use Rattle.rows.specs.declared.Stop.{Stop}
 use Rattle.rows.specs.declared.Stop.the-variants as stops
 
@@ -15,19 +19,23 @@ pub data Row {L : Type 0} (Head : List ℕ → L → List Field → Type 0) : �
   none : {at : ℕ} → Row Head at [] [] []
   more : {at : ℕ} {w v : List ℕ} {l : L} {fs : List Field} {rest : List (L × List Field)} {ends : List ℕ} → Head w l fs → Row Head (at + length w) v rest ends → Row Head at (w ++ v) ((l, fs) ∷ rest) ((at + length w) ∷ ends)
 
--- why the reading stopped before the bytes rest, with n slots, after as many heads as count, of which there is room for all
-pub data Stopped {L : Type 0} (Head : List ℕ → L → List Field → Type 0) (n : ℕ) (rest : List ℕ) (count all : ℕ) : Stop → Type 0 where
+-- the reader's answer ends so, whatever it tells besides
+abbrev pub Ends : {K : Type 0} → Heads K → Passed → Type 0
+Ends {K} a p = (k : Known K) × (tell p k ≡ a)
+
+-- why the reading stopped before the bytes rest, with n slots, after so many heads and with room for so many ends
+pub data Stopped {L K : Type 0} (Head : List ℕ → L → List Field → Type 0) (read : ℕ → List ℕ → Heads K) (n : ℕ) (rest : List ℕ) (count room : ℕ) : Stop → Type 0 where
   -- nothing is left
-  all-read : rest ≡ [] → Stopped Head n rest count all stops.End
+  all-read : rest ≡ [] → Stopped Head read n rest count room stops.End
   -- there is no room for the end of one more
-  full : count ≡ all → 1 ≤ length rest → Stopped Head n rest count all stops.Full
-  -- no head has ended yet in what is left
-  unfinished : ((w t : List ℕ) (l : L) (fs : List Field) → rest ≡ w ++ t → Head w l fs → ⊥) → 1 ≤ length rest → Stopped Head n rest count all stops.More
-  -- no head that fits the slots begins there, whatever bytes u follow
-  wrong : {e : Error} → ((u w t : List ℕ) (l : L) (fs : List Field) → rest ++ u ≡ w ++ t → Head w l fs → length fs ≤ n → ⊥) → 1 ≤ length rest → Stopped Head n rest count all (stops.Bad e)
+  full : count ≡ room → 1 ≤ length rest → Stopped Head read n rest count room stops.Full
+  -- the reader waits for more, and no head has ended yet in what is left
+  unfinished : Ends (read n rest) More → ((w t : List ℕ) (l : L) (fs : List Field) → rest ≡ w ++ t → Head w l fs → ⊥) → 1 ≤ length rest → Stopped Head read n rest count room stops.More
+  -- the reader has that error, and no head that fits the slots begins there, whatever bytes u follow
+  wrong : {e : Error} → Ends (read n rest) (Bad e) → ((u w t : List ℕ) (l : L) (fs : List Field) → rest ++ u ≡ w ++ t → Head w l fs → length fs ≤ n → ⊥) → 1 ≤ length rest → Stopped Head read n rest count room (stops.Bad e)
 
 -- what was read is a row of heads, its ends are in their places, and those behind them are as they were
-pub record RowPromise {L : Type 0} (Head : List ℕ → L → List Field → Type 0) (n : ℕ) (s old : List ℕ) (r : Heads) (new : List ℕ) : Type 0 where
+pub record RowPromise {L K : Type 0} (Head : List ℕ → L → List Field → Type 0) (read : ℕ → List ℕ → Heads K) (n : ℕ) (s old : List ℕ) (r : RowRead) (new : List ℕ) : Type 0 where
   pub bytes : List ℕ
   pub rest : List ℕ
   pub heads : List (L × List Field)
@@ -37,4 +45,4 @@ pub record RowPromise {L : Type 0} (Head : List ℕ → L → List Field → Typ
   pub end : r .end ≡ length bytes
   pub count : r .count ≡ length ends
   pub kept : new ≡ ends ++ drop (length ends) old
-  pub stopped : Stopped Head n rest (r .count) (length old) (r .stop)
+  pub stopped : Stopped Head read n rest (r .count) (length old) (r .stop)

@@ -3,6 +3,7 @@ ghost use Prim.Native.Nat.{_/_, _≤_};
 ghost use lib.ListN.{length, drop};
 ghost use Rattle.rules.specs.Rules.{default};
 ghost use Rattle.grammar.specs.Message.{request-head, response-head};
+ghost use Rattle.heads.specs.Calls.{request as requestOf, response as responseOf};
 ghost use Rattle.rows.specs.Row.{RowPromise};
 ghost use Rattle.rows.specs.Reading.{Next};
 use parts::Error;
@@ -18,7 +19,7 @@ pub enum Stop {
 }
 
 // How many heads were read, the position behind the last of them, and why the reading stopped there.
-pub struct Heads {
+pub struct RowRead {
     pub count: usize,
     pub end: usize,
     pub stop: Stop,
@@ -27,7 +28,7 @@ pub struct Heads {
 // The end of the head that starts at `at`, from there on.
 fn next_request(s: &[u8], at: usize, slots: &mut [usize]) -> Passed
     requires { ⌜ at ≤ length (now s) ⌝ }
-    ensures { λ r. ⌜ Next (request-head default) (length (now (slots .entry)) / 4) (drop at (now (s .entry))) r ⌝ }
+    ensures { λ r. ⌜ Next (request-head default) (requestOf default) (length (now (slots .entry)) / 4) (drop at (now (s .entry))) r ⌝ }
 {
     let head = calls::request(&s[at..], slots);
     head.end
@@ -35,21 +36,21 @@ fn next_request(s: &[u8], at: usize, slots: &mut [usize]) -> Passed
 
 fn next_response(s: &[u8], at: usize, slots: &mut [usize]) -> Passed
     requires { ⌜ at ≤ length (now s) ⌝ }
-    ensures { λ r. ⌜ Next (response-head default) (length (now (slots .entry)) / 4) (drop at (now (s .entry))) r ⌝ }
+    ensures { λ r. ⌜ Next (response-head default) (responseOf default) (length (now (slots .entry)) / 4) (drop at (now (s .entry))) r ⌝ }
 {
     let head = calls::response(&s[at..], slots);
     head.end
 }
 
-// Puts the position behind each head into `ends`. The slots are used for each head in turn, and hold the last head's when it returns.
-pub fn requests(s: &[u8], slots: &mut [usize], ends: &mut [usize]) -> Heads
-    ensures { λ r. ⌜ RowPromise (request-head default) (length (now (slots .entry)) / 4) (now (s .entry)) (now (ends .entry)) r (now (ends .exit)) ⌝ }
+// Puts the position behind each head into `ends`. The slots are used for each head in turn, and are left as the last call left them.
+pub fn requests(s: &[u8], slots: &mut [usize], ends: &mut [usize]) -> RowRead
+    ensures { λ r. ⌜ RowPromise (request-head default) (requestOf default) (length (now (slots .entry)) / 4) (now (s .entry)) (now (ends .entry)) r (now (ends .exit)) ⌝ }
 {
     let mut at = 0;
     let mut count = 0;
     while at < s.len() {
         if ends.len() <= count {
-            return Heads {
+            return RowRead {
                 count,
                 end: at,
                 stop: Stop::Full,
@@ -63,14 +64,14 @@ pub fn requests(s: &[u8], slots: &mut [usize], ends: &mut [usize]) -> Heads
                 count += 1;
             }
             Passed::More => {
-                return Heads {
+                return RowRead {
                     count,
                     end: at,
                     stop: Stop::More,
                 };
             }
             Passed::Bad(e) => {
-                return Heads {
+                return RowRead {
                     count,
                     end: at,
                     stop: Stop::Bad(e),
@@ -78,21 +79,21 @@ pub fn requests(s: &[u8], slots: &mut [usize], ends: &mut [usize]) -> Heads
             }
         }
     }
-    Heads {
+    RowRead {
         count,
         end: at,
         stop: Stop::End,
     }
 }
 
-pub fn responses(s: &[u8], slots: &mut [usize], ends: &mut [usize]) -> Heads
-    ensures { λ r. ⌜ RowPromise (response-head default) (length (now (slots .entry)) / 4) (now (s .entry)) (now (ends .entry)) r (now (ends .exit)) ⌝ }
+pub fn responses(s: &[u8], slots: &mut [usize], ends: &mut [usize]) -> RowRead
+    ensures { λ r. ⌜ RowPromise (response-head default) (responseOf default) (length (now (slots .entry)) / 4) (now (s .entry)) (now (ends .entry)) r (now (ends .exit)) ⌝ }
 {
     let mut at = 0;
     let mut count = 0;
     while at < s.len() {
         if ends.len() <= count {
-            return Heads {
+            return RowRead {
                 count,
                 end: at,
                 stop: Stop::Full,
@@ -106,14 +107,14 @@ pub fn responses(s: &[u8], slots: &mut [usize], ends: &mut [usize]) -> Heads
                 count += 1;
             }
             Passed::More => {
-                return Heads {
+                return RowRead {
                     count,
                     end: at,
                     stop: Stop::More,
                 };
             }
             Passed::Bad(e) => {
-                return Heads {
+                return RowRead {
                     count,
                     end: at,
                     stop: Stop::Bad(e),
@@ -121,7 +122,7 @@ pub fn responses(s: &[u8], slots: &mut [usize], ends: &mut [usize]) -> Heads
             }
         }
     }
-    Heads {
+    RowRead {
         count,
         end: at,
         stop: Stop::End,

@@ -1,8 +1,6 @@
 // The plain form of what was read, written into bytes that the caller lends. It demands nothing of the caller.
-ghost use Rattle.plain.specs.Plain.{plain-request, plain-response, plain-fields};
-ghost use Rattle.agreement.specs.Known.{fieldsIn};
-ghost use Rattle.places.specs.Lies.{RequestLies, ResponseLies, BlockLies, requestOf, statusOf};
-ghost use Rattle.writer.specs.Promise.{PlainPromise};
+ghost use Rattle.places.specs.Lies.{RequestLies, ResponseLies, BlockLies};
+ghost use Rattle.writer.specs.Promise.{request-form, response-form, block-form, PlainPromise};
 
 mod lines;
 
@@ -11,7 +9,7 @@ use heads::RequestHead;
 use heads::ResponseHead;
 
 // So many bytes were written; so many are needed, and nothing was written; what was read is not complete, or its places do not lie in the
-// input; there are more bytes to write than a number can say.
+// input; there are more bytes to write than a number can say. What is written is a head if a call answered it on the same input.
 pub enum Plain {
     Written(usize),
     Needs(usize),
@@ -20,7 +18,7 @@ pub enum Plain {
 }
 
 pub fn plain_request(s: &[u8], head: RequestHead, slots: &[usize], out: &mut [u8]) -> Plain
-    ensures { λ r. ⌜ PlainPromise (RequestLies (now (s .entry)) head (now (slots .entry))) (plain-request (requestOf (now (s .entry)) (head .line)) (fieldsIn (now (s .entry)) (head .count) (now (slots .entry)))) (now (out .entry)) r (now (out .exit)) ⌝ }
+    ensures { λ r. ⌜ PlainPromise (RequestLies (now (s .entry)) head (now (slots .entry))) (request-form (now (s .entry)) head (now (slots .entry))) (now (out .entry)) r (now (out .exit)) ⌝ }
 {
     if !places::request(s, head, slots) {
         return Plain::Unwritable;
@@ -38,7 +36,7 @@ pub fn plain_request(s: &[u8], head: RequestHead, slots: &[usize], out: &mut [u8
 }
 
 pub fn plain_response(s: &[u8], head: ResponseHead, slots: &[usize], out: &mut [u8]) -> Plain
-    ensures { λ r. ⌜ PlainPromise (ResponseLies (now (s .entry)) head (now (slots .entry))) (plain-response (statusOf (now (s .entry)) (head .line)) (fieldsIn (now (s .entry)) (head .count) (now (slots .entry)))) (now (out .entry)) r (now (out .exit)) ⌝ }
+    ensures { λ r. ⌜ PlainPromise (ResponseLies (now (s .entry)) head (now (slots .entry))) (response-form (now (s .entry)) head (now (slots .entry))) (now (out .entry)) r (now (out .exit)) ⌝ }
 {
     if !places::response(s, head, slots) {
         return Plain::Unwritable;
@@ -55,7 +53,7 @@ pub fn plain_response(s: &[u8], head: ResponseHead, slots: &[usize], out: &mut [
 }
 
 pub fn plain_headers(s: &[u8], block: Block, slots: &[usize], out: &mut [u8]) -> Plain
-    ensures { λ r. ⌜ PlainPromise (BlockLies (now (s .entry)) block (now (slots .entry))) (plain-fields (fieldsIn (now (s .entry)) (block .count) (now (slots .entry)))) (now (out .entry)) r (now (out .exit)) ⌝ }
+    ensures { λ r. ⌜ PlainPromise (BlockLies (now (s .entry)) block (now (slots .entry))) (block-form (now (s .entry)) block (now (slots .entry))) (now (out .entry)) r (now (out .exit)) ⌝ }
 {
     if !places::block(s, block, slots) {
         return Plain::Unwritable;
