@@ -1,13 +1,13 @@
 // Heads in a row.
-use rows::Heads;
+use rows::RowRead;
 use rows::Stop;
 
 // How many heads were read and the position behind them; 0 where that is all of the input, 1 where the next head is incomplete, a number
 // from 2 on for its error, and 10 where there is no room for one more end.
-fn told(heads: Heads, out: &mut [usize; 2]) -> u32 {
-    let stop = heads.stop;
-    out[0] = heads.count;
-    out[1] = heads.end;
+fn told(row: RowRead, out: &mut [usize; 2]) -> u32 {
+    let stop = row.stop;
+    out[0] = row.count;
+    out[1] = row.end;
     match stop {
         Stop::End => 0,
         Stop::More => 1,

@@ -87,14 +87,14 @@ fn with_file(kind: Kind, mode: Mode, at: usize) -> Call {
     if count <= at {
         return Call::Read(kind, mode, 0);
     }
-    if at < count - 1 {
-        return refused(
-            b"headread: too many arguments: one file is read, and its name stands last\n",
-        );
-    }
     if is_option(at) {
         return refused(
             b"headread: --plain stands first, --raw second; a file whose name starts with - is given as ./-\n",
+        );
+    }
+    if at < count - 1 {
+        return refused(
+            b"headread: too many arguments: one file is read, and its name stands last\n",
         );
     }
     Call::Read(kind, mode, at)
@@ -117,7 +117,8 @@ fn refused(why: &[u8]) -> Call {
        headread --plain request|response|headers [FILE]
   says what stands at the start of FILE, or of standard input where no file is named
   --raw    one line a field with tabs between, for scripts
-  --plain  the head alone in its plain form: CR LF at each line's end, one space before each value
+  --plain  the head in its plain form: CR LF at each line's end, one space before each value; what stands behind
+           the head is not written
 ",
     );
     Call::Refused

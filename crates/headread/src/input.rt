@@ -17,7 +17,7 @@ pub fn open(file: usize) -> i32 {
     let mut name = io::buffer();
     let n = os::arg(file, &mut name);
     if os::errno() != 0 {
-        refuse(b"headread: the file's name");
+        refuse(b"the file's name");
         return -1;
     }
     let descriptor = os::open_read(&name[..n]);
@@ -47,6 +47,7 @@ pub fn read(descriptor: i32, buffer: &mut [u8]) -> Input {
 
 // Says what the system has against a file or its name.
 pub fn refuse(what: &[u8]) {
+    io::write_all(STDERR_FILENO, b"headread: ");
     os::fail(what);
     io::write_all(
         STDERR_FILENO,
@@ -58,7 +59,7 @@ pub fn refuse_long() {
     io::write_all(
         STDERR_FILENO,
         b"headread: the input has more than 65536 bytes
-headread: give it the start alone, as in: head -c 65536 FILE | headread request
+headread: give it the start alone, which head -c 65536 FILE writes
 ",
     );
 }

@@ -31,7 +31,7 @@ fn read(kind: Kind, mode: Mode, file: usize) {
     let found = input::read(descriptor, &mut buffer);
     match found {
         Input::Bytes(n) => show(kind, mode, part(&buffer, 0, n)),
-        Input::Unreadable => input::refuse(b"headread: the input"),
+        Input::Unreadable => input::refuse(b"the input"),
         Input::TooLong => input::refuse_long(),
     }
 }
@@ -61,21 +61,25 @@ fn show_plain(page: &mut Page, kind: Kind, s: &[u8]) {
             let n = report::report(page, kind, false, s);
             write(STDERR_FILENO, page, n);
         }
-        Plain::Needs(n) => write(STDOUT_FILENO, page, n),
-        Plain::TooLong => write(STDOUT_FILENO, page, usize::MAX),
+        Plain::Needs(_) => refuse_size(),
+        Plain::TooLong => refuse_size(),
     }
 }
 
 fn write(descriptor: i32, page: &Page, n: usize) {
     let all: &[u8] = page;
     if all.len() < n {
-        io::write_all(
-            STDERR_FILENO,
-            b"headread: the report is longer than headread has room for; report this as a fault\n",
-        );
+        refuse_size();
         return;
     }
     if !io::write_all(descriptor, &all[0..n]) {
-        os::fail(b"headread: the report cannot be written");
+        os::fail(b"headread: what was found cannot be written");
     }
+}
+
+fn refuse_size() {
+    io::write_all(
+        STDERR_FILENO,
+        b"headread: what was found is longer than headread has room for; report this as a fault\n",
+    );
 }

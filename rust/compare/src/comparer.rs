@@ -44,11 +44,32 @@ impl Comparer {
         }
         self.tally.count(self.theirs.status);
         if is_complete_head(case, &self.theirs) {
-            if let Err(wrong) = self.round_trip.go(case, &self.theirs) {
-                panic!("the round trip of {} failed: {wrong}", case.query());
-            }
-            self.tally.count_round_trip();
+            self.send_round(case);
         }
+    }
+
+    /// Sends a complete head through its plain form and back; if it is lost, panics with the shortest that is.
+    fn send_round(&mut self, case: &Case) {
+        if self.round_trip.go(case, &self.theirs).is_err() {
+            let input = shrink(case.input, |input| {
+                self.lost(&Case { input, ..*case }).is_some()
+            });
+            let shortest = Case {
+                input: &input,
+                ..*case
+            };
+            let wrong = self.lost(&shortest).unwrap_or_default();
+            panic!("a head does not come back:\n{}\n{wrong}", shortest.query());
+        }
+        self.tally.count_round_trip();
+    }
+
+    /// What goes wrong on the round trip of a case, if it is a complete head.
+    fn lost(&mut self, case: &Case) -> Option<String> {
+        self.theirs.lend(case.room());
+        theirs::read(case, &mut self.theirs);
+        let complete = is_complete_head(case, &self.theirs);
+        complete.then(|| self.round_trip.go(case, &self.theirs).err())?
     }
 
     pub fn tally(&self) -> Tally {

@@ -36,6 +36,13 @@ pub struct Lent {
 }
 
 impl Lent {
+    /// This many numbers, untouched.
+    pub fn of(count: usize) -> Lent {
+        let mut lent = Lent::default();
+        lent.renew(count);
+        lent
+    }
+
     fn renew(&mut self, count: usize) {
         self.guarded.resize(GUARD + count + GUARD, UNTOUCHED);
         self.guarded.fill(UNTOUCHED);

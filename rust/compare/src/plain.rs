@@ -52,10 +52,15 @@ pub enum Written {
 /// What every byte holds before a writer is called, and those behind the lent ones afterwards too.
 pub const UNTOUCHED: u8 = 0xA5;
 
-/// How many bytes stand behind the lent ones; no writer may touch them.
+/// How many bytes stand on either side of the lent ones; no writer may touch them.
 const GUARD: usize = 8;
 
-/// Writes the plain form of an answer into the first `lent` bytes of `out`, the rest of which is a guard.
+/// What is put behind a plain form before it is read back: a reader must not care.
+const BEHIND: &[u8] = b"A: b\r\n";
+
+/// Writes the plain form of an answer into the `lent` bytes that `out` has when it returns.
+///
+/// Panics if a byte before or behind them was touched.
 pub fn write(
     call: Call,
     input: &[u8],
@@ -64,7 +69,7 @@ pub fn write(
     lent: usize,
 ) -> Written {
     out.clear();
-    out.resize(lent + GUARD, UNTOUCHED);
+    out.resize(GUARD + lent + GUARD, UNTOUCHED);
     let writer = match call {
         Call::Request => harness_plain_request,
         Call::Response => harness_plain_response,
@@ -82,11 +87,17 @@ pub fn write(
             slots.len(),
             answer.status,
             answer.out.numbers().as_ptr(),
-            out.as_mut_ptr(),
+            out[..].as_mut_ptr().wrapping_add(GUARD),
             lent,
             &mut size,
         )
     };
+    let behind = out.split_off(GUARD + lent);
+    let before = out.drain(..GUARD);
+    assert!(
+        before.chain(behind).all(|byte| byte == UNTOUCHED),
+        "a writer touched a guard"
+    );
     match (kind, size) {
         (0, size) => Written::All(size as usize),
         (1, size) => Written::Needs(size as usize),
@@ -117,8 +128,6 @@ impl RoundTrip {
         expect_untouched(&self.again)?;
         let written = write(case.call, case.input, answer, &mut self.written, length);
         expect("room enough", written, Written::All(length))?;
-        expect_untouched(&self.written[length..])?;
-        self.written.truncate(length);
         if self.written != self.expected {
             return Err(format!(
                 "the plain form is {}, and {} was written",
@@ -131,6 +140,8 @@ impl RoundTrip {
 
     /// Both readers must find the same fields in what was written, and the same bytes are written of them.
     fn read_back(&mut self, case: &Case, answer: &Numbers) -> Result<(), String> {
+        let length = self.written.len();
+        self.written.extend_from_slice(BEHIND);
         let plain = Case {
             call: case.call,
             slots: answer.out.numbers()[1] as usize,
@@ -141,7 +152,7 @@ impl RoundTrip {
         theirs::read(&plain, &mut self.back);
         let end = self.back.out.numbers()[0] as usize;
         expect("httparse's status", self.back.status, 0)?;
-        expect("httparse's end", end, self.written.len())?;
+        expect("httparse's end", end, length)?;
         let before = fields(case.call, case.input, answer);
         let after = fields(case.call, &self.written, &self.back);
         if !before.eq(after) || numbers(case.call, answer) != numbers(case.call, &self.back) {
@@ -158,7 +169,6 @@ impl RoundTrip {
                 self.written.escape_ascii()
             ));
         }
-        let length = self.written.len();
         let again = write(
             case.call,
             &self.written,
@@ -167,7 +177,7 @@ impl RoundTrip {
             length,
         );
         expect("writing again", again, Written::All(length))?;
-        match self.again[..length] == self.written {
+        match self.again == self.written[..length] {
             true => Ok(()),
             false => Err("written again, the bytes are others".to_string()),
         }

@@ -1,6 +1,6 @@
 //! Heads one behind another, read by Headreader and, head by head, by httparse.
 
-use crate::numbers::{Numbers, SLOT};
+use crate::numbers::{Lent, Numbers, SLOT, UNTOUCHED};
 use crate::{theirs, Case};
 use answers::Call;
 
@@ -28,9 +28,6 @@ extern "C" {
 /// The status of a row that has more heads than there is room for their ends.
 pub const FULL: u32 = 10;
 
-/// What every end holds before the call.
-pub const UNTOUCHED: u64 = u64::MAX;
-
 /// Why the reading stopped, how many heads were read, the position behind them, and all of the ends.
 #[derive(Debug, PartialEq, Eq)]
 pub struct Row {
@@ -42,9 +39,7 @@ pub struct Row {
 
 /// What Headreader answers, with this many slots and room for this many ends.
 pub fn ours(call: Call, input: &[u8], slots: usize, heads: usize) -> Row {
-    let mut lent = vec![UNTOUCHED; slots * SLOT];
-    let mut ends = vec![UNTOUCHED; heads];
-    let mut out = [UNTOUCHED; 2];
+    let [mut lent, mut ends, mut out] = [slots * SLOT, heads, 2].map(Lent::of);
     let reader = match call {
         Call::Request => harness_requests,
         _ => harness_responses,
@@ -55,18 +50,20 @@ pub fn ours(call: Call, input: &[u8], slots: usize, heads: usize) -> Row {
         reader(
             input.as_ptr(),
             input.len(),
-            lent.as_mut_ptr(),
-            lent.len(),
-            ends.as_mut_ptr(),
-            ends.len(),
-            out.as_mut_ptr(),
+            lent.pointer(),
+            slots * SLOT,
+            ends.pointer(),
+            heads,
+            out.pointer(),
         )
     };
+    let guarded = [&lent, &ends, &out];
+    assert!(guarded.iter().all(|lent| lent.guards_are_untouched()));
     Row {
         status,
-        count: out[0],
-        end: out[1],
-        ends,
+        count: out.numbers()[0],
+        end: out.numbers()[1],
+        ends: ends.numbers().to_vec(),
     }
 }
 

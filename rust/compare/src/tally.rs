@@ -22,6 +22,18 @@ impl Tally {
         self.round_trips += 1;
     }
 
+    /// Panics if a complete head was not sent through its plain form; a chunk size line has none.
+    pub fn assert_all_came_back(&self, heads: u64) {
+        assert_eq!(
+            self.round_trips, heads,
+            "not every head was sent on its way"
+        );
+    }
+
+    pub fn complete(&self) -> u64 {
+        self.statuses[0]
+    }
+
     pub fn total(&self) -> u64 {
         self.statuses.iter().sum()
     }

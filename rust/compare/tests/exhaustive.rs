@@ -195,6 +195,9 @@ fn strings_up_to(depth: usize, bytes: u64) -> u64 {
 fn compare_telling(call: Call, starts: &[Start], bytes: &[u8]) {
     let tally = compare_behind(call, starts, bytes);
     tally.assert_all_seen(call);
+    if call != Call::ChunkSize {
+        tally.assert_all_came_back(tally.complete());
+    }
     let count = starts.len();
     println!("{call}, all strings behind {count} starts: {tally}, no difference");
 }

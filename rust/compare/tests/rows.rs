@@ -17,15 +17,16 @@ fn short(call: Call) -> Vec<Shape> {
         .collect()
 }
 
-/// Some heads with nothing between them, and how many there are.
-fn row(shapes: &[Shape], random: &mut Random) -> (Vec<u8>, usize) {
-    let count = random.below(7);
+/// Some heads with nothing between them, and where each ends.
+fn row(shapes: &[Shape], random: &mut Random) -> (Vec<u8>, Vec<u64>) {
     let mut bytes = Vec::new();
-    for _ in 0..count {
+    let mut ends = Vec::new();
+    for _ in 0..random.below(7) {
         let head = make(&random.choose(shapes), random);
         bytes.extend_from_slice(&head.bytes[..end(&head)]);
+        ends.push(bytes.len() as u64);
     }
-    (bytes, count)
+    (bytes, ends)
 }
 
 /// Where the head ends and what stands behind it begins.
@@ -56,9 +57,10 @@ fn rows_of_heads() {
     for call in [Call::Request, Call::Response] {
         let shapes = short(call);
         for _ in 0..ROWS {
-            let (good, count) = row(&shapes, &mut random);
-            let all = ours(call, &good, 100, count);
-            assert_eq!((all.status, all.count as usize), (0, count));
+            let (good, ends) = row(&shapes, &mut random);
+            let all = ours(call, &good, 100, ends.len());
+            assert_eq!((all.status, all.count), (0, ends.len() as u64));
+            assert_eq!(all.ends, ends);
             let damage = random.below(2) == 0;
             let input = if damage {
                 damaged(good, &mut random)
