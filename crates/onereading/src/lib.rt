@@ -1,1 +1,1 @@
-// One reading only: answers that never change, and one derivation: all of it theorems, in specs/.
+// One reading only: answers that never change, one derivation, heads in a row, and the way to the plain form and back: theorems, in specs/.

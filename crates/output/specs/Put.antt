@@ -1,4 +1,4 @@
--- What it is for bytes to have been put into a slice, as far as there is room.
+-- What it is for bytes to have been put into a slice, if there is room for all of them.
 -- Assumes nothing.
 use Prim.Native.Nat.{ℕ, _+_, _-_, _≤_, _<_}
 use native.Mathlib.Omega.{arith}

@@ -1,4 +1,4 @@
-// Texts put one behind another into a lent slice, as far as there is room, and how long they are in all.
+// Texts put one behind another into a lent slice, each if there is room for all of it, and how long they are in all.
 ghost use Rattle.output.specs.Put.{Adds};
 
 // Puts a text at a position if it ends within `out`. Answers the position behind it, and usize::MAX where there is no such number.

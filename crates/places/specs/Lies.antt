@@ -54,7 +54,7 @@ pub record SlotsLie (s : List ℕ) (count : ℕ) (slots : List ℕ) : Type 0 whe
   pub room : count * 4 ≤ length slots
   pub inside : SlotsInside (length s) count slots
 
--- a version's minor number is a digit
+-- all of a request was read and lies in the input; the minor number is a digit
 pub record RequestLies (s : List ℕ) (head : RequestHead) (slots : List ℕ) : Type 0 where
   pub complete : Complete (head .end)
   pub method : Lies s (head .line .method)
@@ -62,7 +62,7 @@ pub record RequestLies (s : List ℕ) (head : RequestHead) (slots : List ℕ) : 
   pub version : AtMost 9 (head .line .version)
   pub headers : SlotsLie s (head .count) slots
 
--- a code is of three digits
+-- all of a response was read and lies in the input; the code has three digits
 pub record ResponseLies (s : List ℕ) (head : ResponseHead) (slots : List ℕ) : Type 0 where
   pub complete : Complete (head .end)
   pub version : AtMost 9 (head .line .version)
@@ -70,6 +70,7 @@ pub record ResponseLies (s : List ℕ) (head : ResponseHead) (slots : List ℕ) 
   pub reason : Lies s (head .line .reason)
   pub headers : SlotsLie s (head .count) slots
 
+-- and of headers alone
 pub record BlockLies (s : List ℕ) (block : Block) (slots : List ℕ) : Type 0 where
   pub complete : Complete (block .end)
   pub headers : SlotsLie s (block .count) slots
