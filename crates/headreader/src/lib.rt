@@ -1,23 +1,24 @@
-// The calls for programs in C: each answer as a number and eight more.
+// The calls for programs in C: each answer as a number and eight more. The contract of each says that these are the call's answer.
+ghost use mathlib.Core.Path.{_≡_};
+ghost use mathlib.Core.List.{[], _∷_};
 ghost use Prim.Native.Nat.{_≤_};
+ghost use lib.ListN.{length};
+ghost use Rattle.headreader.specs.Numbers.{errorNumber, kindOf, positionOf, pieceOf, numberOf, pieceBit, numberBit, placed, requestNumbers, responseNumbers, blockNumbers, sizeKind, sizeNumbers};
+ghost use Rattle.headreader.specs.Exports.{RequestExport, ResponseExport, HeadersExport, SizeExport};
+use blocks::Block;
 use chunks::ChunkSize;
+use heads::RequestHead;
+use heads::ResponseHead;
 use parts::Error;
 use parts::Passed;
 use parts::Piece;
 use startline::KnownNumber;
 use startline::KnownPiece;
 
-// 0 for complete, 1 for incomplete, and a number from 2 on for each error.
-fn kind(end: Passed) -> u32 {
-    match end {
-        Passed::At(_) => 0,
-        Passed::More => 1,
-        Passed::Bad(e) => error_number(e),
-    }
-}
-
-// The same number for whoever else tells errors to C.
-pub fn error_number(e: Error) -> u32 {
+// The number of an error, for whoever tells one to C.
+pub fn error_number(e: Error) -> u32
+    ensures { λ r. ⌜ r ≡ errorNumber e ⌝ }
+{
     match e {
         Error::HeaderName => 2,
         Error::HeaderValue => 3,
@@ -29,8 +30,21 @@ pub fn error_number(e: Error) -> u32 {
     }
 }
 
+// 0 for complete, 1 for incomplete, and a number from 2 on for each error.
+fn kind(end: Passed) -> u32
+    ensures { λ r. ⌜ r ≡ kindOf end ⌝ }
+{
+    match end {
+        Passed::At(_) => 0,
+        Passed::More => 1,
+        Passed::Bad(e) => error_number(e),
+    }
+}
+
 // The position behind what was read, and 0 where it is not complete.
-fn position(end: Passed) -> usize {
+fn position(end: Passed) -> usize
+    ensures { λ r. ⌜ r ≡ positionOf end ⌝ }
+{
     match end {
         Passed::At(next) => next,
         Passed::More => 0,
@@ -39,7 +53,9 @@ fn position(end: Passed) -> usize {
 }
 
 // What is not known is 0.
-fn piece(known: KnownPiece) -> Piece {
+fn piece(known: KnownPiece) -> Piece
+    ensures { λ r. ⌜ r ≡ pieceOf known ⌝ }
+{
     match known {
         KnownPiece::Is(p) => p,
         KnownPiece::NotYet => Piece {
@@ -49,62 +65,40 @@ fn piece(known: KnownPiece) -> Piece {
     }
 }
 
-fn number(known: KnownNumber) -> usize {
+fn number(known: KnownNumber) -> usize
+    ensures { λ r. ⌜ r ≡ numberOf known ⌝ }
+{
     match known {
         KnownNumber::Is(n) => n,
         KnownNumber::NotYet => 0,
     }
 }
 
-// The weight where something is known, else 0.
-fn piece_weight(known: KnownPiece, weight: usize) -> usize
-    ensures { λ r. ⌜ r ≤ weight ⌝ }
+// The bit where something is known, else 0.
+fn piece_bit(known: KnownPiece, bit: usize) -> usize
+    ensures { λ r. ⌜ r ≡ pieceBit known bit ⌝ }
+    ensures { λ r. ⌜ r ≤ bit ⌝ }
 {
     match known {
-        KnownPiece::Is(_) => weight,
+        KnownPiece::Is(_) => bit,
         KnownPiece::NotYet => 0,
     }
 }
 
-fn number_weight(known: KnownNumber, weight: usize) -> usize
-    ensures { λ r. ⌜ r ≤ weight ⌝ }
+fn number_bit(known: KnownNumber, bit: usize) -> usize
+    ensures { λ r. ⌜ r ≡ numberBit known bit ⌝ }
+    ensures { λ r. ⌜ r ≤ bit ⌝ }
 {
     match known {
-        KnownNumber::Is(_) => weight,
+        KnownNumber::Is(_) => bit,
         KnownNumber::NotYet => 0,
     }
 }
 
-// No setting has an effect yet.
-#[no_mangle]
-pub extern "C" fn hr_request(
-    buf: &[u8],
-    slots: &mut [usize],
-    out: &mut [usize; 8],
-    settings: u32,
-) -> u32 {
-    let head = calls::request(buf, slots);
-    let end = head.end;
-    let line = head.line;
-    let method = line.method;
-    let target = line.target;
-    let version = line.version;
-    let first = piece(method);
-    let second = piece(target);
-    out[0] = position(end);
-    out[1] = head.count;
-    out[2] = piece_weight(method, 1) + piece_weight(target, 2) + number_weight(version, 4);
-    out[3] = first.offset;
-    out[4] = first.length;
-    out[5] = second.offset;
-    out[6] = second.length;
-    out[7] = number(version);
-    kind(end)
-}
-
-// A reason that is empty is told as 0, 0.
-fn words(known: KnownPiece) -> Piece {
-    let p = piece(known);
+// An empty piece is told as 0, 0.
+fn placed_piece(p: Piece) -> Piece
+    ensures { λ r. ⌜ r ≡ placed p ⌝ }
+{
     if p.length == 0 {
         return Piece {
             offset: 0,
@@ -114,79 +108,136 @@ fn words(known: KnownPiece) -> Piece {
     p
 }
 
+// All eight numbers of `out`.
+fn put(
+    out: &mut [usize],
+    a: usize,
+    b: usize,
+    c: usize,
+    d: usize,
+    e: usize,
+    f: usize,
+    g: usize,
+    h: usize,
+)
+    requires { ⌜ length (now out) ≡ 8 ⌝ }
+    ensures { λ _. ⌜ now (out .exit) ≡ a ∷ b ∷ c ∷ d ∷ e ∷ f ∷ g ∷ h ∷ [] ⌝ }
+{
+    out[0] = a;
+    out[1] = b;
+    out[2] = c;
+    out[3] = d;
+    out[4] = e;
+    out[5] = f;
+    out[6] = g;
+    out[7] = h;
+}
+
+fn put_request(out: &mut [usize; 8], head: RequestHead)
+    ensures { λ _. ⌜ now (out .exit) ≡ requestNumbers head ⌝ }
+{
+    let end = head.end;
+    let line = head.line;
+    let method = line.method;
+    let target = line.target;
+    let version = line.version;
+    let known = piece_bit(method, 1) + piece_bit(target, 2) + number_bit(version, 4);
+    let first = piece(method);
+    let second = piece(target);
+    put(
+        out,
+        position(end),
+        head.count,
+        known,
+        first.offset,
+        first.length,
+        second.offset,
+        second.length,
+        number(version),
+    );
+}
+
+fn put_response(out: &mut [usize; 8], head: ResponseHead)
+    ensures { λ _. ⌜ now (out .exit) ≡ responseNumbers head ⌝ }
+{
+    let end = head.end;
+    let line = head.line;
+    let version = line.version;
+    let code = line.code;
+    let reason = line.reason;
+    let known = number_bit(version, 4) + number_bit(code, 8) + piece_bit(reason, 16);
+    let text = placed_piece(piece(reason));
+    put(
+        out,
+        position(end),
+        head.count,
+        known,
+        number(version),
+        number(code),
+        text.offset,
+        text.length,
+        0,
+    );
+}
+
+// No setting has an effect yet.
+#[no_mangle]
+pub extern "C" fn hr_request(
+    buf: &[u8],
+    slots: &mut [usize],
+    out: &mut [usize; 8],
+    settings: u32,
+) -> u32
+    ensures { λ r. ⌜ RequestExport (now (buf .entry)) (now (slots .entry)) r (now (out .exit)) (now (slots .exit)) ⌝ }
+{
+    let head = calls::request(buf, slots);
+    let end = head.end;
+    put_request(out, head);
+    kind(end)
+}
+
 #[no_mangle]
 pub extern "C" fn hr_response(
     buf: &[u8],
     slots: &mut [usize],
     out: &mut [usize; 8],
     settings: u32,
-) -> u32 {
+) -> u32
+    ensures { λ r. ⌜ ResponseExport (now (buf .entry)) (now (slots .entry)) r (now (out .exit)) (now (slots .exit)) ⌝ }
+{
     let head = calls::response(buf, slots);
     let end = head.end;
-    let line = head.line;
-    let version = line.version;
-    let code = line.code;
-    let reason = line.reason;
-    let text = words(reason);
-    out[0] = position(end);
-    out[1] = head.count;
-    out[2] = number_weight(version, 4) + number_weight(code, 8) + piece_weight(reason, 16);
-    out[3] = number(version);
-    out[4] = number(code);
-    out[5] = text.offset;
-    out[6] = text.length;
-    out[7] = 0;
+    put_response(out, head);
     kind(end)
 }
 
-// Six numbers that a call has no use for.
-fn clear(out: &mut [usize; 8]) {
-    out[2] = 0;
-    out[3] = 0;
-    out[4] = 0;
-    out[5] = 0;
-    out[6] = 0;
-    out[7] = 0;
-}
-
 #[no_mangle]
-pub extern "C" fn hr_headers(buf: &[u8], slots: &mut [usize], out: &mut [usize; 8]) -> u32 {
+pub extern "C" fn hr_headers(buf: &[u8], slots: &mut [usize], out: &mut [usize; 8]) -> u32
+    ensures { λ r. ⌜ HeadersExport (now (buf .entry)) (now (slots .entry)) r (now (out .exit)) (now (slots .exit)) ⌝ }
+{
     let block = calls::headers(buf, slots);
     let end = block.end;
-    out[0] = position(end);
-    out[1] = block.count;
-    clear(out);
+    put(out, position(end), block.count, 0, 0, 0, 0, 0, 0);
     kind(end)
 }
 
-// A chunk size line's answer as a number, its end and its size.
-pub struct SizeLine {
-    pub kind: u32,
-    pub end: usize,
-    pub size: u64,
-}
-
-fn told(size: ChunkSize) -> SizeLine {
-    match size {
-        ChunkSize::Complete(end, size) => SizeLine { kind: 0, end, size },
-        ChunkSize::Incomplete => SizeLine {
-            kind: 1,
-            end: 0,
-            size: 0,
-        },
-        ChunkSize::Invalid => SizeLine {
-            kind: 9,
-            end: 0,
-            size: 0,
-        },
-    }
-}
-
 #[no_mangle]
-pub extern "C" fn hr_chunk_size(buf: &[u8], out: &mut [usize; 8]) -> u32 {
-    let line = told(calls::chunk_size(buf));
-    out[0] = line.end;
-    out[1] = line.size as usize;
-    clear(out);
-    line.kind
+pub extern "C" fn hr_chunk_size(buf: &[u8], out: &mut [usize; 8]) -> u32
+    ensures { λ r. ⌜ SizeExport (now (buf .entry)) r (now (out .exit)) ⌝ }
+{
+    let found = calls::chunk_size(buf);
+    match found {
+        ChunkSize::Complete(end, size) => {
+            put(out, end, size as usize, 0, 0, 0, 0, 0, 0);
+            0
+        }
+        ChunkSize::Incomplete => {
+            put(out, 0, 0, 0, 0, 0, 0, 0, 0);
+            1
+        }
+        ChunkSize::Invalid => {
+            put(out, 0, 0, 0, 0, 0, 0, 0, 0);
+            9
+        }
+    }
 }

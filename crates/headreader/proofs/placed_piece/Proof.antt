@@ -1,0 +1,13 @@
+-- `headreader::placed_piece` meets its contract: a piece is empty, or it is not.
+-- Assumes nothing.
+use borrow.Author.Needs.{needs}
+use Rattle.headreader.specs.Laws.{empty-piece, long-piece}
+use Rattle.headreader.proofs.placed_piece.Statement.{statement}
+use Rattle.headreader.proofs.placed_piece.Tie as tie
+
+pub placed-piece-spec : {M : Type 1} → statement M
+placed-piece-spec =
+    tie.close
+    (tie.spec
+    (λ c. search (needs, empty-piece, long-piece))
+    (λ c. search (needs, empty-piece, long-piece)))

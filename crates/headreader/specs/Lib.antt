@@ -1,0 +1,3 @@
+pub mod Numbers
+pub mod Exports
+pub mod Laws

@@ -1,0 +1,93 @@
+-- The answers as numbers, for programs in C.
+-- Assumes nothing.
+use Prim.Native.Nat.{ℕ, _+_}
+use mathlib.Core.List.{List, [], _∷_}
+use mathlib.Core.Bool.{cond}
+use lib.Dec.{eqb}
+use lib.ListN.{length}
+use Rattle.parts.specs.declared.Error.{Error}
+use Rattle.parts.specs.declared.Error.the-variants.{HeaderName, HeaderValue, NewLine, Status, Token, TooManyHeaders, Version}
+use Rattle.parts.specs.declared.Passed.{Passed}
+use Rattle.parts.specs.declared.Passed.the-variants.{At, More, Bad}
+use Rattle.parts.specs.declared.Piece.{Piece}
+use Rattle.startline.specs.declared.KnownPiece.{KnownPiece}
+use Rattle.startline.specs.declared.KnownPiece.the-variants as pieces
+use Rattle.startline.specs.declared.KnownNumber.{KnownNumber}
+use Rattle.startline.specs.declared.KnownNumber.the-variants as numbers
+use Rattle.heads.specs.declared.RequestHead.{RequestHead}
+use Rattle.heads.specs.declared.ResponseHead.{ResponseHead}
+use Rattle.blocks.specs.declared.Block.{Block}
+use Rattle.chunks.specs.declared.ChunkSize.{ChunkSize}
+use Rattle.chunks.specs.declared.ChunkSize.the-variants as sizes
+
+-- the number of each error
+abbrev pub errorNumber : Error → ℕ
+errorNumber HeaderName = 2
+errorNumber HeaderValue = 3
+errorNumber NewLine = 4
+errorNumber Status = 5
+errorNumber Token = 6
+errorNumber TooManyHeaders = 7
+errorNumber Version = 8
+
+-- 0 for complete, 1 for incomplete
+abbrev pub kindOf : Passed → ℕ
+kindOf (At q) = 0
+kindOf More = 1
+kindOf (Bad e) = errorNumber e
+
+-- the end, and 0 where none was reached
+abbrev pub positionOf : Passed → ℕ
+positionOf (At q) = q
+positionOf More = 0
+positionOf (Bad e) = 0
+
+-- what is not known is 0
+abbrev pub pieceOf : KnownPiece → Piece
+pieceOf (pieces.Is p) = p
+pieceOf pieces.NotYet = record { offset = 0; length = 0 }
+
+abbrev pub numberOf : KnownNumber → ℕ
+numberOf (numbers.Is n) = n
+numberOf numbers.NotYet = 0
+
+-- a bit for each part that is known
+abbrev pub pieceBit : KnownPiece → ℕ → ℕ
+pieceBit (pieces.Is p) bit = bit
+pieceBit pieces.NotYet bit = 0
+
+abbrev pub numberBit : KnownNumber → ℕ → ℕ
+numberBit (numbers.Is n) bit = bit
+numberBit numbers.NotYet bit = 0
+
+-- a piece of no length has no place
+abbrev pub placed : Piece → Piece
+placed p = cond (eqb (p .length) 0) (record { offset = 0; length = 0 }) p
+
+-- end, count, what is known (1 method, 2 target, 4 version), method, target, minor version
+abbrev pub requestNumbers : RequestHead → List ℕ
+requestNumbers h =
+    positionOf (h .end) ∷ h .count ∷ (pieceBit (h .line .method) 1 + pieceBit (h .line .target) 2 + numberBit (h .line .version) 4)
+    ∷ pieceOf (h .line .method) .offset ∷ pieceOf (h .line .method) .length ∷ pieceOf (h .line .target) .offset ∷ pieceOf (h .line .target) .length ∷ numberOf (h .line .version) ∷ []
+
+-- end, count, what is known (4 version, 8 code, 16 reason), minor version, code, reason, 0
+abbrev pub responseNumbers : ResponseHead → List ℕ
+responseNumbers h =
+    positionOf (h .end) ∷ h .count ∷ (numberBit (h .line .version) 4 + numberBit (h .line .code) 8 + pieceBit (h .line .reason) 16)
+    ∷ numberOf (h .line .version) ∷ numberOf (h .line .code) ∷ placed (pieceOf (h .line .reason)) .offset ∷ placed (pieceOf (h .line .reason)) .length ∷ 0 ∷ []
+
+-- end and count
+abbrev pub blockNumbers : Block → List ℕ
+blockNumbers b = positionOf (b .end) ∷ b .count ∷ 0 ∷ 0 ∷ 0 ∷ 0 ∷ 0 ∷ 0 ∷ []
+
+-- 9 for a line that is wrong
+abbrev pub sizeKind : ChunkSize → ℕ
+sizeKind (sizes.Complete q n) = 0
+sizeKind sizes.Incomplete = 1
+sizeKind sizes.Invalid = 9
+
+-- end and size
+abbrev pub sizeNumbers : ChunkSize → List ℕ
+sizeNumbers (sizes.Complete q n) = q ∷ n ∷ 0 ∷ 0 ∷ 0 ∷ 0 ∷ 0 ∷ 0 ∷ []
+sizeNumbers sizes.Incomplete = 0 ∷ 0 ∷ 0 ∷ 0 ∷ 0 ∷ 0 ∷ 0 ∷ 0 ∷ []
+sizeNumbers sizes.Invalid = 0 ∷ 0 ∷ 0 ∷ 0 ∷ 0 ∷ 0 ∷ 0 ∷ 0 ∷ []
