@@ -1,0 +1,144 @@
+/* Tests of the C library: each answer by number, and inputs that end right before memory that can't be read. */
+#define _DEFAULT_SOURCE
+#include <headreader.h>
+#include <stdbool.h>
+#include <stdio.h>
+#include <stdlib.h>
+#include <string.h>
+#include <sys/mman.h>
+#include <unistd.h>
+
+#define SLOTS 3
+#define NUMBERS (SLOTS * 4)
+#define UNTOUCHED UINT64_C(0xA5A55A5AA5A55A5A)
+
+enum call { REQUEST, RESPONSE, HEADERS, CHUNK_SIZE };
+
+/* All that a call leaves behind, with a number on either side of what it may write. */
+struct answer {
+    uint32_t status;
+    uint64_t out[1 + 8 + 1];
+    uint64_t slots[1 + NUMBERS + 1];
+};
+
+/* What is expected: the eight numbers of out, and the slots that are given. */
+struct expected {
+    enum call call;
+    const char *input;
+    uint32_t status;
+    uint64_t out[8];
+    uint64_t slots[NUMBERS];
+};
+
+static const struct expected CASES[] = {
+    {REQUEST, "GET / HTTP/1.1\r\nHost: a\r\nX:\r\n\r\nbody", HR_COMPLETE, {31, 2, 7, 0, 3, 4, 1, 1}, {16, 4, 22, 1, 25, 1, 27, 0}},
+    {REQUEST, "GET / HTTP/1.0\nA: b\n", HR_INCOMPLETE, {0, 1, 7, 0, 3, 4, 1, 0}, {15, 1, 18, 1}},
+    {REQUEST, "GET /", HR_INCOMPLETE, {0, 0, 1, 0, 3, 0, 0, 0}, {0}},
+    {REQUEST, " ", HR_TOKEN, {0}, {0}},
+    {REQUEST, "GET / HTTP/2", HR_VERSION, {0, 0, 3, 0, 3, 4, 1, 0}, {0}},
+    {REQUEST, "GET / HTTP/1.1\r\n\rA", HR_NEW_LINE, {0, 0, 7, 0, 3, 4, 1, 1}, {0}},
+    {RESPONSE, "HTTP/1.1 200 OK\r\nA: b\r\n\r\n", HR_COMPLETE, {25, 1, 28, 1, 200, 13, 2, 0}, {17, 1, 20, 1}},
+    {RESPONSE, "HTTP/1.0 204\r\n\r\n", HR_COMPLETE, {16, 0, 28, 0, 204, 0, 0, 0}, {0}},
+    {RESPONSE, "HTTP/1.1 x", HR_STATUS, {0, 0, 4, 1, 0, 0, 0, 0}, {0}},
+    {HEADERS, "A: b\r\nC: d\r\n\r\n", HR_COMPLETE, {14, 2, 0, 0, 0, 0, 0, 0}, {0, 1, 3, 1, 6, 1, 9, 1}},
+    {HEADERS, "A b\n", HR_HEADER_NAME, {0}, {0}},
+    {HEADERS, "A: b\nC:\001", HR_HEADER_VALUE, {0, 1, 0, 0, 0, 0, 0, 0}, {0, 1, 3, 1}},
+    {HEADERS, "A:b\nC:d\nE:f\nG:h\n\n", HR_TOO_MANY_HEADERS, {0, 3, 0, 0, 0, 0, 0, 0}, {0, 1, 2, 1, 4, 1, 6, 1, 8, 1, 10, 1}},
+    {HEADERS, "", HR_INCOMPLETE, {0}, {0}},
+    {CHUNK_SIZE, "3086d;x\r\n", HR_COMPLETE, {9, 198765, 0, 0, 0, 0, 0, 0}, {0}},
+    {CHUNK_SIZE, "ffffffffffffffff\r\n", HR_COMPLETE, {18, UINT64_MAX, 0, 0, 0, 0, 0, 0}, {0}},
+    {CHUNK_SIZE, "a", HR_INCOMPLETE, {0}, {0}},
+    {CHUNK_SIZE, "g", HR_CHUNK_SIZE, {0}, {0}},
+};
+
+#define CASE_COUNT (sizeof CASES / sizeof CASES[0])
+
+static int passed, failed;
+
+static void count(bool good, const char *what, const struct expected *expected) {
+    if (good) {
+        passed++;
+        return;
+    }
+    failed++;
+    printf("wrong: %s, on \"%s\"\n", what, expected->input);
+}
+
+static struct answer ask(enum call call, const uint8_t *buf, size_t len) {
+    struct answer answer;
+    for (size_t i = 0; i < sizeof answer.out / sizeof answer.out[0]; i++)
+        answer.out[i] = UNTOUCHED;
+    for (size_t i = 0; i < sizeof answer.slots / sizeof answer.slots[0]; i++)
+        answer.slots[i] = UNTOUCHED;
+    uint64_t *out = answer.out + 1;
+    uint64_t *slots = answer.slots + 1;
+    switch (call) {
+    case REQUEST:
+        answer.status = hr_request(buf, len, slots, NUMBERS, out, 0);
+        break;
+    case RESPONSE:
+        answer.status = hr_response(buf, len, slots, NUMBERS, out, 0);
+        break;
+    case HEADERS:
+        answer.status = hr_headers(buf, len, slots, NUMBERS, out);
+        break;
+    default:
+        answer.status = hr_chunk_size(buf, len, out);
+    }
+    return answer;
+}
+
+/* Whether the numbers are those, with all that must be untouched as it was. */
+static bool is(const struct answer *answer, const struct expected *expected) {
+    size_t given = expected->call == CHUNK_SIZE ? 0 : (size_t)expected->out[1] * 4;
+    for (size_t i = 0; i < NUMBERS; i++) {
+        uint64_t right = i < given ? expected->slots[i] : UNTOUCHED;
+        if (answer->slots[1 + i] != right)
+            return false;
+    }
+    return answer->status == expected->status && memcmp(answer->out + 1, expected->out, sizeof expected->out) == 0 &&
+           answer->out[0] == UNTOUCHED && answer->out[9] == UNTOUCHED && answer->slots[0] == UNTOUCHED &&
+           answer->slots[1 + NUMBERS] == UNTOUCHED;
+}
+
+static bool same(const struct answer *one, const struct answer *other) {
+    return one->status == other->status && memcmp(one->out, other->out, sizeof one->out) == 0 &&
+           memcmp(one->slots, other->slots, sizeof one->slots) == 0;
+}
+
+/* In memory of exactly its length, which AddressSanitizer watches. */
+static void test_allocated(const struct expected *expected) {
+    size_t len = strlen(expected->input);
+    uint8_t *buf = malloc(len ? len : 1);
+    if (!buf)
+        abort();
+    memcpy(buf, expected->input, len);
+    struct answer answer = ask(expected->call, buf, len);
+    count(is(&answer, expected), "an allocated input", expected);
+    free(buf);
+}
+
+/* Every start of the input, right before a page that can't be read: the library itself is not instrumented. */
+static void test_before_a_wall(const struct expected *expected, uint8_t *wall) {
+    size_t len = strlen(expected->input);
+    for (size_t part = 0; part <= len; part++) {
+        uint8_t *buf = wall - part;
+        memcpy(buf, expected->input, part);
+        struct answer answer = ask(expected->call, buf, part);
+        struct answer again = ask(expected->call, (const uint8_t *)expected->input, part);
+        count(same(&answer, &again), "an input before a wall", expected);
+    }
+}
+
+int main(void) {
+    size_t page = (size_t)sysconf(_SC_PAGESIZE);
+    uint8_t *pages = mmap(NULL, 2 * page, PROT_READ | PROT_WRITE, MAP_PRIVATE | MAP_ANONYMOUS, -1, 0);
+    if (pages == MAP_FAILED || mprotect(pages + page, page, PROT_NONE) != 0)
+        abort();
+    for (size_t i = 0; i < CASE_COUNT; i++) {
+        test_allocated(&CASES[i]);
+        test_before_a_wall(&CASES[i], pages + page);
+    }
+    printf("%d passed, %d failed\n", passed, failed);
+    return failed != 0;
+}

@@ -1,0 +1,72 @@
+/*
+ * Headreader reads the heads of HTTP/1 messages: requests, responses, headers alone, and chunk size lines.
+ * It answers as httparse 1.10.1 does with default settings, and is proved: see docs/PROVED.md.
+ *
+ * Each function reads buf[0] to buf[len - 1] and keeps nothing. It writes all eight numbers of out, and of slots the first
+ * out[1] slots, four numbers each: where a header's name is, the name's length, where its value is, the value's length. All other
+ * slots are left as they were. Every place that is told lies within buf.
+ *
+ * No pointer may be null, not even where its length is 0: the toolchain promises nothing of a null pointer. slots and out are
+ * aligned as uint64_t is, and nothing that is written may overlap anything else that is passed.
+ */
+#ifndef HEADREADER_H
+#define HEADREADER_H
+
+#include <stddef.h>
+#include <stdint.h>
+
+#ifdef __cplusplus
+extern "C" {
+#endif
+
+/* What a function returns. */
+#define HR_COMPLETE 0u
+#define HR_INCOMPLETE 1u
+#define HR_HEADER_NAME 2u
+#define HR_HEADER_VALUE 3u
+#define HR_NEW_LINE 4u
+#define HR_STATUS 5u
+#define HR_TOKEN 6u
+#define HR_TOO_MANY_HEADERS 7u
+#define HR_VERSION 8u
+#define HR_CHUNK_SIZE 9u
+
+/* The bits of out[2]: what is known of the start line. */
+#define HR_KNOWS_METHOD 1u
+#define HR_KNOWS_TARGET 2u
+#define HR_KNOWS_VERSION 4u
+#define HR_KNOWS_CODE 8u
+#define HR_KNOWS_REASON 16u
+
+/* The bits of settings. None has an effect yet. */
+#define HR_SPACES_AFTER_HEADER_NAME 1u
+#define HR_MULTI_LINE_HEADERS 2u
+#define HR_MULTIPLE_SPACES_IN_REQUEST_LINE 4u
+#define HR_MULTIPLE_SPACES_IN_STATUS_LINE 8u
+#define HR_SPACE_BEFORE_FIRST_HEADER_NAME 16u
+#define HR_IGNORE_INVALID_HEADERS_IN_RESPONSES 32u
+#define HR_IGNORE_INVALID_HEADERS_IN_REQUESTS 64u
+
+/*
+ * A request. out: 0 the position behind the head, and 0 where it is not complete; 1 how many headers were given; 2 what is known;
+ * 3, 4 the method's offset and length; 5, 6 the target's; 7 the minor version. What is not known is 0. slots_len counts numbers.
+ */
+uint32_t hr_request(const uint8_t *buf, size_t len, uint64_t *slots, size_t slots_len, uint64_t out[8], uint32_t settings);
+
+/*
+ * A response. out: 0, 1, 2 as above; 3 the minor version; 4 the code; 5, 6 the reason's offset and length, 0 and 0 where it is
+ * empty; 7 is 0.
+ */
+uint32_t hr_response(const uint8_t *buf, size_t len, uint64_t *slots, size_t slots_len, uint64_t out[8], uint32_t settings);
+
+/* Headers alone, up to the empty line. out: 0, 1 as above; the others are 0. */
+uint32_t hr_headers(const uint8_t *buf, size_t len, uint64_t *slots, size_t slots_len, uint64_t out[8]);
+
+/* The line before a chunk. out: 0 the position behind it; 1 the size; the others are 0. */
+uint32_t hr_chunk_size(const uint8_t *buf, size_t len, uint64_t out[8]);
+
+#ifdef __cplusplus
+}
+#endif
+
+#endif
