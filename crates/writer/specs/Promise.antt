@@ -6,7 +6,6 @@ use mathlib.Core.Path.{_≡_, sym, ap, _∙_}
 use mathlib.Core.List.{List, [], _++_}
 use lib.ListN.{length, drop}
 use mathlib.Core.Bool.{Bool, true, false}
-use borrow.Author.Tests.{not-true, not-false}
 use Rattle.agreement.specs.Known.{fieldsIn}
 use Rattle.plain.specs.Plain.{plain-fields, plain-request, plain-response}
 use Rattle.output.specs.Put.{greatest, Behind, is, beyond, Adds, nothing-put}
@@ -80,8 +79,6 @@ module _ {Writable : Type 0} {form old : List ℕ} where
       all-written g h {new = new} w =
           let l : n ≡ length form = behind-all (form-length a) g in
           written (d .yes t) l h (w .behind [] old (nothing-put old) .bytes (omega (arith, l, h)) ∙ ap (λ y. form ++ drop y old) (sym l))
-
-pub ruleset promised = (not-true, not-false, request-writable, response-writable, block-writable, not-writable, no-number, no-room, all-written)
 
 -- a writer that answers Written has written
 pub was-written : {Writable : Type 0} {form old : List ℕ} {r : Plain} {new : List ℕ} → PlainPromise Writable form old r new → {n : ℕ} → r ≡ Written n → Writable × (n ≡ length form) × (n ≤ length old) × (new ≡ form ++ drop n old)

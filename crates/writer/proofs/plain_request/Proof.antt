@@ -1,7 +1,8 @@
 -- `writer::plain_request` meets its contract: what does not lie in the input, is too long or has no room is refused before a byte is written.
 -- Assumes nothing.
 use borrow.Author.Needs.{needs}
-use Rattle.writer.specs.Promise.{promised}
+use borrow.Author.Tests.{not-true, not-false}
+use Rattle.writer.specs.Promise.{request-writable, not-writable, no-number, no-room, all-written}
 use Rattle.writer.proofs.plain_request.Statement.{statement}
 use Rattle.writer.proofs.plain_request.Tie as tie
 
@@ -10,11 +11,11 @@ plain-request-spec =
     tie.close
     (tie.spec
     (λ c κs. search needs)
-    (λ c. search (needs, promised))
+    (λ c. search (needs, not-true, not-writable))
     (λ c. search needs)
-    (λ c κs. search (needs, promised))
-    (λ c. search (needs, promised))
-    (λ c. search (needs, promised))
-    (λ c κs. search (needs, promised))
+    (λ c κs. search (needs, not-false, request-writable))
+    (λ c. search (needs, not-false, no-number))
+    (λ c. search (needs, not-false, no-room))
+    (λ c κs. search (needs, not-false, request-writable))
     (λ c. search needs)
-    (λ c. search (needs, promised)))
+    (λ c. search (needs, not-false, all-written)))
