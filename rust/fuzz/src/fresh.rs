@@ -1,0 +1,45 @@
+//! New heads among those that mutation makes of old ones.
+
+use crate::input::write;
+use compare::heads::{make, shapes, Head};
+use compare::{Case, Random};
+
+/// Heads of every shape up to this length, one each, with what is left open chosen at random.
+pub fn heads(longest: usize, random: &mut Random) -> Vec<Head> {
+    let short = shapes().into_iter().filter(|shape| shape.length <= longest);
+    let heads = short.map(|shape| make(&shape, random));
+    heads.filter(|head| head.bytes.len() <= longest).collect()
+}
+
+/// A row of bytes that stands for a call on a new head, or for none if the shape chosen is too long.
+pub fn fresh(longest: usize, random: &mut Random) -> Option<Vec<u8>> {
+    let shape = random.choose(&shapes());
+    if shape.length > longest {
+        return None;
+    }
+    let head = make(&shape, random);
+    let few = head.headers.saturating_sub(1);
+    let row = write(&Case {
+        call: head.call,
+        slots: random.choose(&[0, few, head.headers, head.headers + 1]),
+        remainder: random.below(4),
+        input: &head.bytes,
+    });
+    (row.len() <= longest).then_some(row)
+}
+
+#[cfg(test)]
+mod tests {
+    use super::*;
+
+    #[test]
+    fn new_heads_are_no_longer_than_asked_for() {
+        let mut random = Random::new(1);
+        for longest in [0, 60, 4_096] {
+            let rows = (0..500).filter_map(|_| fresh(longest, &mut random));
+            let rows: Vec<Vec<u8>> = rows.collect();
+            assert_eq!(rows.is_empty(), longest == 0);
+            assert!(rows.iter().all(|row| row.len() <= longest));
+        }
+    }
+}
