@@ -1,25 +1,24 @@
 //! Splits work over the cores of the machine.
 
-use crate::{Comparer, Tally};
+use crate::Tally;
 use std::num::NonZero;
 use std::panic::{catch_unwind, resume_unwind, AssertUnwindSafe};
 use std::sync::atomic::{AtomicUsize, Ordering};
 use std::thread;
 
-/// Does every job, each thread with a comparer of its own, and counts all comparisons.
-pub fn on_all_cores<Job: Sync>(jobs: &[Job], work: impl Fn(&Job, &mut Comparer) + Sync) -> Tally {
+/// Does every job, and adds up what each has counted.
+pub fn on_all_cores<Job: Sync>(jobs: &[Job], work: impl Fn(&Job) -> Tally + Sync) -> Tally {
     let next = AtomicUsize::new(0);
     let take_jobs = || {
-        let mut comparer = Comparer::of_headreader();
+        let mut sum = Tally::default();
         while let Some(job) = jobs.get(next.fetch_add(1, Ordering::Relaxed)) {
-            let work = AssertUnwindSafe(|| work(job, &mut comparer));
-            catch_unwind(work).unwrap_or_else(|panic| {
+            sum += catch_unwind(AssertUnwindSafe(|| work(job))).unwrap_or_else(|panic| {
                 // One difference is enough, so the other threads find no more jobs.
                 next.store(jobs.len(), Ordering::Relaxed);
                 resume_unwind(panic)
             });
         }
-        comparer.tally()
+        sum
     };
     let cores = thread::available_parallelism().map_or(1, NonZero::get);
     let mut sum = Tally::default();

@@ -3,15 +3,19 @@
 mod case;
 mod comparer;
 mod cores;
+pub mod damage;
 pub mod heads;
 pub mod numbers;
 mod ours;
 pub mod plain;
 pub mod row;
 mod shrink;
+pub mod starts;
+pub mod strings;
 mod tally;
 mod text;
 mod theirs;
+pub mod types;
 
 pub use answers::Random;
 pub use case::{Case, CALLS};

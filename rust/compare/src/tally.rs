@@ -74,11 +74,14 @@ impl fmt::Display for Tally {
         let refused: u64 = self.statuses[2..].iter().sum();
         write!(
             formatter,
-            "{} comparisons ({} complete, {} incomplete, {refused} errors) and {} round trips",
+            "{} comparisons ({} complete, {} incomplete, {refused} errors)",
             self.total(),
             self.statuses[0],
-            self.statuses[1],
-            self.round_trips
-        )
+            self.statuses[1]
+        )?;
+        if self.round_trips > 0 {
+            write!(formatter, " and {} round trips", self.round_trips)?;
+        }
+        Ok(())
     }
 }

@@ -1,0 +1,11 @@
+//! A caller of httparse.
+
+use httparse as reader;
+
+#[path = "caller.rs"]
+mod caller;
+#[path = "interface.rs"]
+mod interface;
+
+pub use caller::call;
+pub use interface::texts;

@@ -1,0 +1,107 @@
+//! A caller of Headreader sees what a caller of httparse sees: results, fields, headers and their
+//! places, memory that is left alone, and texts.
+
+use answers::Call;
+use compare::damage::{damaged, places, slot_counts};
+use compare::heads::{make, shapes, Head, Shape, LONGEST};
+use compare::starts::{starts, telling_bytes, Start};
+use compare::strings::{self, strings};
+use compare::types::{our_texts, their_texts, TypesComparer};
+use compare::{on_all_cores, Case, Random, CALLS};
+
+const SEED: u64 = 7230;
+
+/// How many bytes are tried behind each start.
+const DEPTH: usize = 4;
+
+/// Heads up to this length are damaged at every place, longer ones at places chosen at random.
+const SHORT: usize = 150;
+
+/// How many places are chosen in a long head.
+const PLACES: usize = 8;
+
+/// How many heads of each shape are made.
+const HEADS: usize = 2;
+
+fn compare(call: Call, slots: &[usize], input: &[u8], comparer: &mut TypesComparer) {
+    for &slots in slots {
+        comparer.compare(&Case {
+            call,
+            slots,
+            remainder: 0,
+            input,
+        });
+    }
+}
+
+#[test]
+fn texts() {
+    assert_eq!(our_texts(), their_texts());
+}
+
+fn compare_strings(call: Call) {
+    let bytes = telling_bytes(call);
+    let starts: Vec<Start> = starts(call)
+        .iter()
+        .map(|&(start, _)| (start, DEPTH))
+        .collect();
+    let slots = strings::slot_counts(call);
+    let tally = on_all_cores(&strings(&starts, bytes), |strings| {
+        let mut comparer = TypesComparer::of_headreader();
+        strings.each(bytes, |input| compare(call, slots, input, &mut comparer));
+        comparer.tally()
+    });
+    let all = strings::how_many(&starts, bytes) * slots.len() as u64;
+    assert_eq!(tally.total(), all);
+    tally.assert_all_seen(call);
+    let count = starts.len();
+    println!("{call} by its types, all strings behind {count} starts: {tally}, no difference");
+}
+
+#[test]
+fn all_short_strings() {
+    for call in CALLS {
+        compare_strings(call);
+    }
+}
+
+/// Compares the head with each damage at a place, and cut there with the rest still behind it.
+fn damage_at(place: usize, head: &Head, random: &mut Random, comparer: &mut TypesComparer) {
+    let slots = slot_counts(head);
+    for input in &damaged(&head.bytes, place, random) {
+        compare(head.call, &slots, input, comparer);
+    }
+    compare(head.call, &slots, &head.bytes[..place], comparer);
+}
+
+/// Each shape as often as it is made, with a seed for each; the longest would take too long.
+fn jobs() -> Vec<(Shape, u64)> {
+    let mut seeds = Random::new(SEED);
+    let mut jobs = Vec::new();
+    for shape in shapes().into_iter().filter(|shape| shape.length < LONGEST) {
+        jobs.extend((0..HEADS).map(|_| (shape, seeds.number())));
+    }
+    jobs
+}
+
+#[test]
+fn damaged_heads() {
+    let jobs = jobs();
+    let tally = on_all_cores(&jobs, |(shape, seed)| {
+        let mut comparer = TypesComparer::of_headreader();
+        let mut random = Random::new(*seed);
+        let head = make(shape, &mut random);
+        compare(head.call, &slot_counts(&head), &head.bytes, &mut comparer);
+        for place in places(&head.bytes, SHORT, PLACES, &mut random) {
+            damage_at(place, &head, &mut random, &mut comparer);
+        }
+        comparer.tally()
+    });
+    for call in CALLS {
+        tally.assert_all_seen(call);
+    }
+    let heads = jobs.len();
+    println!(
+        "damaged copies of {heads} heads by their types (seed {SEED}): {tally}, no difference"
+    );
+}

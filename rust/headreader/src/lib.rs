@@ -1,0 +1,99 @@
+//! Reads the heads of HTTP/1 messages: the first line and the headers of a request or a response,
+//! headers alone, and the line that says how long a chunk of a body is.
+//!
+//! The interface is that of the crate httparse 1.10.1, by name and type, and so are the answers.
+//! What reads is Headreader: code in which every function is proved to meet its contract. A
+//! complete answer means that a head ends there and that the fields are its own; an error, that no
+//! head that fits the lent headers begins there; partial, that none has ended yet; and none of them
+//! changes when more bytes arrive. `docs/PROVED.md` in Headreader's repository says what is proved.
+//!
+//! Nothing is copied and nothing is allocated: names and values are parts of the caller's buffer,
+//! and the headers stand in memory that the caller lends.
+//!
+//! # A server
+//!
+//! Bytes are put behind those that came before until a request's head is whole.
+//!
+//! ```
+//! use headreader::{Error, Request, Status, EMPTY_HEADER};
+//!
+//! /// Where the head at the start of the buffer ends, if it is whole.
+//! fn serve(buffer: &[u8]) -> Result<Option<usize>, Error> {
+//!     let mut headers = [EMPTY_HEADER; 16];
+//!     let mut request = Request::new(&mut headers);
+//!     match request.parse(buffer)? {
+//!         Status::Complete(end) => {
+//!             assert_eq!(request.method, Some("GET"));
+//!             assert_eq!(request.path, Some("/orders"));
+//!             assert_eq!(request.headers.len(), 1);
+//!             assert_eq!(request.headers[0].name, "Host");
+//!             Ok(Some(end))
+//!         }
+//!         Status::Partial => Ok(None),
+//!     }
+//! }
+//!
+//! let mut buffer = b"GET /orders HTTP/1.1\r\nHost: whole".to_vec();
+//! assert_eq!(serve(&buffer), Ok(None));
+//! buffer.extend_from_slice(b"saler.example\r\n\r\n");
+//! assert_eq!(serve(&buffer), Ok(Some(50)));
+//! ```
+//!
+//! # A client
+//!
+//! ```
+//! use headreader::{parse_chunk_size, Response, Status, EMPTY_HEADER};
+//!
+//! let answer = b"HTTP/1.1 200 OK\r\nTransfer-Encoding: chunked\r\n\r\n8\r\naccepted\r\n0\r\n\r\n";
+//! let mut headers = [EMPTY_HEADER; 16];
+//! let mut response = Response::new(&mut headers);
+//! let head = response.parse(answer).unwrap().unwrap();
+//! assert_eq!(response.code, Some(200));
+//! assert_eq!(response.headers[0].value, b"chunked");
+//!
+//! let body = &answer[head..];
+//! assert_eq!(parse_chunk_size(body), Ok(Status::Complete((3, 8))));
+//! assert_eq!(&body[3..3 + 8], b"accepted");
+//! ```
+//!
+//! The package has both as programs that loop over a growing buffer: `cargo run --example server`
+//! and `cargo run --example client`.
+//!
+//! # In httparse's place
+//!
+//! `httparse = { package = "headreader", path = ".." }` in a `Cargo.toml` is the whole change. What
+//! is not as in httparse:
+//!
+//! - [`ParserConfig`] has no setters yet, so every head is read with the default settings.
+//! - An empty [`reason`](Response::reason) is the empty slice at the buffer's start. httparse gives
+//!   its place where a space stands behind the code and nothing behind that, and else a constant.
+//! - Only targets with 64-bit pointers are supported.
+//! - What httparse exports for its own benchmarks and hides from its documents is left out.
+
+#![no_std]
+#![deny(missing_docs, unsafe_op_in_unsafe_fn)]
+#![deny(clippy::undocumented_unsafe_blocks, clippy::missing_safety_doc)]
+
+#[cfg(not(target_pointer_width = "64"))]
+compile_error!("headreader needs 64-bit pointers: the proved code counts in 64-bit numbers, four in the place of each header");
+
+mod chunk;
+mod config;
+mod error;
+mod header;
+mod headers;
+mod library;
+mod piece;
+mod request;
+mod response;
+mod slots;
+mod status;
+
+pub use chunk::{parse_chunk_size, InvalidChunkSize};
+pub use config::ParserConfig;
+pub use error::Error;
+pub use header::{Header, EMPTY_HEADER};
+pub use headers::parse_headers;
+pub use request::Request;
+pub use response::Response;
+pub use status::{Result, Status};

@@ -1,0 +1,190 @@
+//! The proved code by its C functions, and what their numbers mean.
+//!
+//! Each function passes on the answer of one call of the crate `calls`. Every `unsafe` here and in
+//! `slots` rests on what is proved of that call, whatever it answers: its promises `inside`,
+//! `within` and `untouched` (`docs/PROVED.md`), and `exact-word`, `exact-target` and `exact-reason`
+//! (`crates/leaves`), which say what bytes a part has that was read; a field is known only then.
+
+use crate::slots::Slots;
+use crate::{piece, Error, Header, InvalidChunkSize, Result, Status};
+
+/// The numbers that every call writes.
+type Out = [usize; 8];
+
+// What is `uint64_t` in C is `usize` here: they are the same where pointers have 64 bits.
+extern "C" {
+    fn hr_request(
+        buffer: *const u8,
+        length: usize,
+        slots: *mut usize,
+        room: usize,
+        out: *mut Out,
+        settings: u32,
+    ) -> u32;
+    fn hr_response(
+        buffer: *const u8,
+        length: usize,
+        slots: *mut usize,
+        room: usize,
+        out: *mut Out,
+        settings: u32,
+    ) -> u32;
+    fn hr_headers(
+        buffer: *const u8,
+        length: usize,
+        slots: *mut usize,
+        room: usize,
+        out: *mut Out,
+    ) -> u32;
+    fn hr_chunk_size(buffer: *const u8, length: usize, out: *mut Out) -> u32;
+}
+
+/// The bits of the fields that are known.
+const METHOD: usize = 1;
+const TARGET: usize = 2;
+const VERSION: usize = 4;
+const CODE: usize = 8;
+const REASON: usize = 16;
+
+/// What a call answers: how it ended, what is known of the first line by then, and the headers
+/// given by then.
+pub struct Answer<'lent, 'buf, Line> {
+    pub result: Result<usize>,
+    pub line: Line,
+    pub headers: &'lent mut [Header<'buf>],
+}
+
+/// What is known of a request's first line.
+pub struct RequestLine<'buf> {
+    pub method: Option<&'buf str>,
+    pub target: Option<&'buf str>,
+    pub version: Option<u8>,
+}
+
+/// What is known of a response's first line.
+pub struct StatusLine<'buf> {
+    pub version: Option<u8>,
+    pub code: Option<u16>,
+    pub reason: Option<&'buf str>,
+}
+
+/// Reads the head of a request.
+pub fn request<'lent, 'buf>(
+    buffer: &'buf [u8],
+    slots: Slots<'lent, 'buf>,
+    settings: u32,
+) -> Answer<'lent, 'buf, RequestLine<'buf>> {
+    let (start, length) = (buffer.as_ptr(), buffer.len());
+    let (numbers, room) = (slots.numbers(), slots.room());
+    let mut out = Out::default();
+    // SAFETY: the call demands nothing but that each pointer is to as many numbers as are said,
+    // eight for `out`, and that what it writes is lent to it alone; what the slots hold does not
+    // matter to it, and by `untouched` it is kept in those not given.
+    let kind = unsafe { hr_request(start, length, numbers, room, &mut out, settings) };
+    let [end, given, known, method, method_length, target, target_length, version] = out;
+    // SAFETY: that call was lent these slots and this buffer, and nothing has touched the slots
+    // since.
+    let headers = unsafe { slots.into_headers(given, buffer) };
+    // SAFETY: by `inside` a known method lies in the buffer, and by `exact-word` it is a `token`,
+    // so it is ASCII.
+    let method =
+        is_in(known, METHOD).then(|| unsafe { piece::text(buffer, method, method_length) });
+    // SAFETY: by `inside` a known target lies in the buffer, and by `exact-target` and `utf8-exact`
+    // it is UTF-8.
+    let target =
+        is_in(known, TARGET).then(|| unsafe { piece::text(buffer, target, target_length) });
+    let version = is_in(known, VERSION).then_some(version as u8);
+    Answer {
+        result: result(kind, end),
+        line: RequestLine {
+            method,
+            target,
+            version,
+        },
+        headers,
+    }
+}
+
+/// Reads the head of a response.
+pub fn response<'lent, 'buf>(
+    buffer: &'buf [u8],
+    slots: Slots<'lent, 'buf>,
+    settings: u32,
+) -> Answer<'lent, 'buf, StatusLine<'buf>> {
+    let (start, length) = (buffer.as_ptr(), buffer.len());
+    let (numbers, room) = (slots.numbers(), slots.room());
+    let mut out = Out::default();
+    // SAFETY: as for a request.
+    let kind = unsafe { hr_response(start, length, numbers, room, &mut out, settings) };
+    let [end, given, known, version, code, reason, reason_length, _] = out;
+    // SAFETY: that call was lent these slots and this buffer, and nothing has touched the slots
+    // since.
+    let headers = unsafe { slots.into_headers(given, buffer) };
+    let version = is_in(known, VERSION).then_some(version as u8);
+    let code = is_in(known, CODE).then_some(code as u16);
+    // SAFETY: by `inside` a known reason lies in the buffer (an empty one is told as 0 bytes at 0),
+    // and by `exact-reason` it is `plain-text` or empty, so it is ASCII.
+    let reason =
+        is_in(known, REASON).then(|| unsafe { piece::text(buffer, reason, reason_length) });
+    Answer {
+        result: result(kind, end),
+        line: StatusLine {
+            version,
+            code,
+            reason,
+        },
+        headers,
+    }
+}
+
+/// Reads headers alone.
+pub fn headers<'lent, 'buf>(
+    buffer: &'buf [u8],
+    slots: Slots<'lent, 'buf>,
+) -> Answer<'lent, 'buf, ()> {
+    let (start, length) = (buffer.as_ptr(), buffer.len());
+    let mut out = Out::default();
+    // SAFETY: as for a request.
+    let kind = unsafe { hr_headers(start, length, slots.numbers(), slots.room(), &mut out) };
+    let [end, given, ..] = out;
+    Answer {
+        // SAFETY: that call was lent these slots and this buffer, and nothing has touched the slots
+        // since.
+        headers: unsafe { slots.into_headers(given, buffer) },
+        line: (),
+        result: result(kind, end),
+    }
+}
+
+/// Reads a chunk size line.
+pub fn chunk_size(buffer: &[u8]) -> core::result::Result<Status<(usize, u64)>, InvalidChunkSize> {
+    let mut out = Out::default();
+    // SAFETY: as for a request, but that nothing is lent.
+    let kind = unsafe { hr_chunk_size(buffer.as_ptr(), buffer.len(), &mut out) };
+    let [end, size, ..] = out;
+    match kind {
+        0 => Ok(Status::Complete((end, size as u64))),
+        1 => Ok(Status::Partial),
+        9 => Err(InvalidChunkSize),
+        _ => unreachable!("no chunk size line is answered with {kind}"),
+    }
+}
+
+fn is_in(known: usize, field: usize) -> bool {
+    known & field != 0
+}
+
+fn result(kind: u32, end: usize) -> Result<usize> {
+    match kind {
+        0 => Ok(Status::Complete(end)),
+        1 => Ok(Status::Partial),
+        2 => Err(Error::HeaderName),
+        3 => Err(Error::HeaderValue),
+        4 => Err(Error::NewLine),
+        5 => Err(Error::Status),
+        6 => Err(Error::Token),
+        7 => Err(Error::TooManyHeaders),
+        8 => Err(Error::Version),
+        _ => unreachable!("no head is answered with {kind}"),
+    }
+}
