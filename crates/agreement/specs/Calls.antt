@@ -30,20 +30,17 @@ use Rattle.heads.specs.Calls.{request, response}
 use Rattle.agreement.specs.Block.{exact-block}
 use Rattle.agreement.specs.StartLine.{exact-request-line, exact-status-line}
 use Rattle.agreement.specs.Places.{at-start}
-use Rattle.agreement.specs.Fields.{fieldsOf, block-derived, block-read, block-over, few-fields, Each, fields-in}
+use Rattle.agreement.specs.Fields.{fieldsOf, block-derived, block-read, block-over, few-fields, Each, fields-in, HeaderIs, fields-are}
 use Rattle.agreement.specs.FieldLine.{HeaderIn}
 use Rattle.agreement.specs.Inside.{request-line-in, status-line-in}
 use Rattle.agreement.specs.Full.{request-refuses, status-refuses, block-full}
-use Rattle.agreement.specs.Starts.{Fixed}
+use Rattle.agreement.specs.Starts.{default-fixed}
 use Rattle.agreement.specs.Known.{RequestSays, StatusSays, RequestInside, StatusInside}
 use Rattle.agreement.specs.Request.{request-derived, request-read}
 use Rattle.agreement.specs.Response.{response-derived, response-read}
 use Rattle.agreement.specs.Exactly.{Found, Exactly, exactly, Lies, given-over, head-lies}
 use Rattle.agreement.specs.Promises.{HeadPromise, block-alone, says-nothing, lies-nowhere}
 use Rattle.agreement.specs.Kept.{kept}
-
-default-fixed : Fixed default
-default-fixed = record { any-target = refl; known-versions = refl; any-code = refl; obs-reason = refl }
 
 module _ (n : ℕ) where
   pub request-exactly : Exactly (request-head default) RequestSays n (request default n)
@@ -117,7 +114,7 @@ module _ (n : ℕ) where
   }
 
 headers-lie : (n : ℕ) → Lies lies-nowhere (headersOf n)
-headers-lie n = record { line = λ z. tt; fields = λ z. subst (Each (HeaderIn (length z))) (sym (given-over tt (block default n [] z 0))) (fields-in z default n [] 0 tt) }
+headers-lie n = record { line = λ z. tt; fields = λ z. subst (Each (HeaderIn (length z))) (sym (given-over tt (block default n [] z 0))) (fields-in z default n [] 0 tt); are = λ z. subst (Each (HeaderIs z)) (sym (given-over tt (block default n [] z 0))) (fields-are z default n [] 0 tt) }
 
 module _ {s old : List ℕ} {end : Passed} {count : ℕ} {new : List ℕ} where
   pub request-promise : {line : RequestLine} → Told (request default (length old / 4) s) end line count old new → HeadPromise (request-head default) RequestSays RequestInside s old end line count new

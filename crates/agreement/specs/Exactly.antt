@@ -22,7 +22,7 @@ use Rattle.heads.specs.Head.{Heads, Known, headStep, headKnown, over, headed, h
 use Rattle.heads.specs.Head as heads
 use Rattle.agreement.specs.Head.{exact-head}
 use Rattle.agreement.specs.Places.{At, at-start, at-as, at-first, at-second, from-at}
-use Rattle.agreement.specs.Fields.{fieldsOf, block-derived, block-read, block-over, few-fields, Each, fields-in}
+use Rattle.agreement.specs.Fields.{HeaderIs, fields-are, fieldsOf, block-derived, block-read, block-over, few-fields, Each, fields-in}
 use Rattle.agreement.specs.FieldLine.{HeaderIn}
 use Rattle.agreement.specs.Inside.{knownOf}
 use Rattle.agreement.specs.Full.{Refuses, OrdinaryLine, head-full}
@@ -57,9 +57,10 @@ module _ {L K : Type 0} (Head : List ℕ → L → List Field → Type 0) (Says 
     pub stays : (s u : List ℕ) (x : Error × Known K) → read s ≡ bad x → read (s ++ u) ≡ bad x
 
 -- every place that a reader tells lies in the input, whatever it answers
-pub record Lies {K : Type 0} (In : ℕ → K → Type 0) (read : List ℕ → Heads K) : Type 0 where
-  pub line : (z : List ℕ) → In (length z) (knownOf (read z) .0)
+pub record Lies {K : Type 0} (In : List ℕ → K → Type 0) (read : List ℕ → Heads K) : Type 0 where
+  pub line : (z : List ℕ) → In z (knownOf (read z) .0)
   pub fields : (z : List ℕ) → Each (HeaderIn (length z)) (given (read z))
+  pub are : (z : List ℕ) → Each (HeaderIs z) (given (read z))
 
 pub given-over : {K : Type 0} (k : K) (b : Blocks) → given (over k b) ≡ blocks.given b
 given-over k (got hs q) = refl
@@ -89,10 +90,11 @@ module _ (r : Rules) (n : ℕ) {K S : Type 0} (m : Step S K (Error × K)) (known
   head-given : (P : List Header → Type 0) → P [] → (z : List ℕ) → ((q : ℕ) → P (blocks.given (block r n [] z q))) → P (given (heads.head r n m known s z))
   head-given P h z g = subst (λ a. P (given a)) (sym (head-parts r n m known s z)) (given-is P h z g (answer known (runAt m s z 0)))
 
-  pub head-lies : (In : ℕ → K → Type 0) → ((z : List ℕ) → In (length z) (knownOf (answer known (runAt m s z 0)))) → Lies In (heads.head r n m known s)
+  pub head-lies : (In : List ℕ → K → Type 0) → ((z : List ℕ) → In z (knownOf (answer known (runAt m s z 0)))) → Lies In (heads.head r n m known s)
   head-lies In h = record {
-    line = λ z. subst (In (length z)) (sym (head-line z)) (h z);
+    line = λ z. subst (In z) (sym (head-line z)) (h z);
     fields = λ z. head-given (Each (HeaderIn (length z))) tt z (λ q. fields-in z r n [] q tt);
+    are = λ z. head-given (Each (HeaderIs z)) tt z (λ q. fields-are z r n [] q tt);
   }
 
 module _ (r : Rules) (n : ℕ) {L K S : Type 0} (m : Step S K (Error × K)) (known : S → K) (s : S) {G : Relation K} (M : Exact m s G) (ordinary : Refuses OrdinaryLine m)

@@ -17,8 +17,8 @@ use Rattle.reader.specs.Branch.{fresh}
 use Rattle.reader.specs.Tests.{split}
 use Rattle.exact.specs.Loop.{Laps, last, next}
 use Rattle.rules.specs.Rules.{Rules}
-use Rattle.grammar.specs.Fields.{Field}
-use Rattle.grammar.specs.Message.{header-block}
+use Rattle.grammar.specs.Fields.{field-name, field-value, Field}
+use Rattle.grammar.specs.Message.{field-line, header-block}
 use Rattle.grammar.specs.Message as grammar
 use Rattle.parts.specs.declared.Error.{Error}
 use Rattle.parts.specs.declared.Error.the-variants.{TooManyHeaders}
@@ -27,7 +27,8 @@ use Rattle.fields.specs.Line.{Kind, header, end, lineStep, line}
 use Rattle.blocks.specs.Block.{taken, block, block-line, given}
 use Rattle.agreement.specs.Line.{Lined, exact-line}
 use Rattle.agreement.specs.Block.{Lapped, line-long}
-use Rattle.agreement.specs.Places.{At, at-first, at-second, from-at}
+use Rattle.agreement.specs.Places.{At, at-drop, at-first, at-second, from-at}
+use Rattle.agreement.specs.Known.{AreFields}
 use Rattle.agreement.specs.FieldLine.{fieldOf, LineIs, ended, field, line-derived, field-read, end-read, HeaderIn, line-in}
 
 -- the fields that headers hold
@@ -197,3 +198,32 @@ module _ (z : List ℕ) (r : Rules) (n : ℕ) where
   -- each lies in the input
   pub fields-in : (hs : List Header) (p : ℕ) → Each (HeaderIn (length z)) hs → Each (HeaderIn (length z)) (given (block r n hs z p))
   fields-in = given-all (Each (HeaderIn (length z))) (λ hs h p q e l f. each-more (HeaderIn (length z)) hs h f (header-in p q h e))
+
+-- the name of a header that is given is a name, and its value a value
+abbrev pub HeaderIs : List ℕ → Header → Type 0
+HeaderIs z h = field-name (fieldOf z h .name) × field-value (fieldOf z h .value)
+
+pub are-fields : (z : List ℕ) (hs : List Header) → Each (HeaderIs z) hs → AreFields (fieldsOf z hs)
+are-fields z [] k = tt
+are-fields z (h ∷ hs) k = (k .0 .0, k .0 .1, are-fields z hs (k .1))
+
+line-field : {l : List ℕ} {f : Field} → field-line l f → field-name (f .name) × field-value (f .value)
+line-field (grammar.field-line.line n o v t) = (n, v)
+
+header-same : {h g : Header} → header h ≡ header g → h ≡ g
+header-same e = cc
+
+module _ (z : List ℕ) (r : Rules) (n : ℕ) where
+  header-is : (p q : ℕ) (h : Header) → line r z p ≡ got (header h) q → HeaderIs z h
+  header-is p q h e =
+      let P = exact-line r .sound p (drop p z) (header h) q (answered nothing _ e) in
+      let s : 1 ≤ length (P .w) = line-long r p (P .w) (header h) (P .rest) (P .holds) in
+      let l : length z - p ≡ length (P .w) + length (P .rest) = sym (length-drop p z) ∙ ap length (P .whole) ∙ length-append (P .w) (P .rest) in
+      by (line-derived (at-drop z p (P .w) (P .rest) (P .whole) (omega (arith, s, l))) (P .holds))
+    where
+      by : {w : List ℕ} → LineIs z r w (header h) → HeaderIs z h
+      by (ended k d) = let m : _≡_ {A = ℕ} 0 1 = cc in absurd (omega arith)
+      by (field g l e k w f d) = subst (HeaderIs z) (sym (header-same k)) (line-field f)
+
+  pub fields-are : (hs : List Header) (p : ℕ) → Each (HeaderIs z) hs → Each (HeaderIs z) (given (block r n hs z p))
+  fields-are = given-all z r n (Each (HeaderIs z)) (λ hs h p q e l f. each-more (HeaderIs z) hs h f (header-is p q h e))

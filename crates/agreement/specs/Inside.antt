@@ -1,19 +1,22 @@
--- Every place that a reader of a start line tells lies in the input, whatever it answers.
+-- Every place that a reader of a start line tells lies in the input and holds what it is said to hold, whatever it answers.
 -- Assumes nothing.
 use Prim.Native.Nat.{ℕ, _+_, _-_, _≤_}
 use native.Mathlib.Omega.{arith}
 use mathlib.Core.Path.{_≡_, refl, sym, ap, subst, _∙_}
-use mathlib.Core.List.{List, [], _∷_}
+use mathlib.Core.List.{List, [], _∷_, _++_, append-nil}
 use lib.ListN.{length, drop, length-append, length-drop}
 use Rattle.reader.specs.Machine.{Step}
 use Rattle.reader.specs.Answer.{Answer, got, short, bad, answered, and}
 use Rattle.reader.specs.Chain.{nothing, reads, ended, last, chain}
 use Rattle.exact.specs.Exact.{Relation, Exact}
 use Rattle.octets.specs.Class.{isToken}
-use Rattle.rules.specs.Rules.{Rules}
+use Rattle.rules.specs.Rules.{Rules, default}
+use Rattle.grammar.specs.Rows.{Many, none}
+use Rattle.grammar.specs.Message.{method, request-target, plain-text}
 use Rattle.parts.specs.declared.Error.{Error}
 use Rattle.parts.specs.declared.Error.the-variants.{NewLine, Status, Token, Version}
 use Rattle.parts.specs.declared.Piece.{Piece}
+use Rattle.parts.specs.Answers.{piece}
 use Rattle.parts.specs.LineEnd.{lineEnd}
 use Rattle.parts.specs.EmptyLines.{emptyLines}
 use Rattle.words.specs.Word.{word}
@@ -30,7 +33,9 @@ use Rattle.leaves.specs.Word.{Worded, exact-word}
 use Rattle.leaves.specs.Target.{Targeted, exact-target}
 use Rattle.leaves.specs.Reason.{Reasoned, plain, obsolete, exact-reason}
 use Rattle.agreement.specs.StartLine.{no-space}
-use Rattle.agreement.specs.FieldLine.{PieceIn}
+use Rattle.agreement.specs.Places.{held, at-drop, at-as, at-first, held-at}
+use Rattle.agreement.specs.Rows.{many-as, tokens}
+use Rattle.agreement.specs.Starts.{default-fixed, target-derived, plain-is}
 use Rattle.agreement.specs.Known.{RequestInside, StatusInside}
 
 -- what an answer knows
@@ -51,32 +56,31 @@ module _ {K A E : Type 0} (P : K → Type 0) (k : K) (f : A → K) (h : P k) whe
   chain-holds next (short u) g = h
   chain-holds next (bad e) g = h
 
--- a piece that an exact machine gives lies in the input, where its relation says that it lies in what was read
-module _ {S : Type 0} {m : Step S Piece Error} {s : S} {G : Relation Piece} (M : Exact m s G) (lies : (p : ℕ) (w : List ℕ) (a : Piece) (rest : List ℕ) → G p w a rest → PieceIn (p + length w) a × (1 ≤ length w + length rest)) where
-  piece-in : (z : List ℕ) (p : ℕ) (a : Piece) (q : ℕ) → reads m s z p ≡ got a q → PieceIn (length z) a
+-- a piece that an exact machine gives lies in the input and holds such bytes, where its relation says that it does so in what was read
+module _ {S : Type 0} {m : Step S Piece Error} {s : S} {G : Relation Piece} (M : Exact m s G) (Such : List ℕ → Type 0)
+    (such : (p : ℕ) (w : List ℕ) (a : Piece) (rest : List ℕ) → G p w a rest → (v u : List ℕ) × (w ≡ v ++ u) × (a ≡ piece p (p + length v)) × Such v × (1 ≤ length w + length rest)) where
+  piece-in : (z : List ℕ) (p : ℕ) (a : Piece) (q : ℕ) → reads m s z p ≡ got a q → (a .offset + a .length ≤ length z) × Such (held z a)
   piece-in z p a q e =
       let P = M .sound p (drop p z) a q (answered nothing _ e) in
       let l : length z - p ≡ length (P .w) + length (P .rest) = sym (length-drop p z) ∙ ap length (P .whole) ∙ length-append (P .w) (P .rest) in
-      let k = lies p (P .w) a (P .rest) (P .holds) in
-      omega (arith, k .0, k .1, l)
+      let k = such p (P .w) a (P .rest) (P .holds) in
+      let n : length (P .w) ≡ length (k .0) + length (k .1) = ap length (k .2) ∙ length-append (k .0) (k .1) in
+      let h = at-first (k .0) (k .1) (at-as (k .2) (at-drop z p (P .w) (P .rest) (P .whole) (omega (arith, k .5, l)))) in
+      (subst (λ y. y .offset + y .length ≤ length z) (sym (k .3)) (omega (arith, k .5, l, n)), subst Such (sym (ap (held z) (k .3) ∙ held-at h)) (k .4))
 
-word-lies : (p : ℕ) (w : List ℕ) (a : Piece) (rest : List ℕ) → Worded isToken 32 p w a rest → PieceIn (p + length w) a × (1 ≤ length w + length rest)
-word-lies p w a rest K =
-    let l : length w ≡ length (K .v) + 1 = ap length (K .whole) ∙ length-append (K .v) (32 ∷ []) in
-    (subst (PieceIn (p + length w)) (sym (K .place)) (omega (arith, l)), omega (arith, l))
+word-such : (p : ℕ) (w : List ℕ) (a : Piece) (rest : List ℕ) → Worded isToken 32 p w a rest → (v u : List ℕ) × (w ≡ v ++ u) × (a ≡ piece p (p + length v)) × method v × (1 ≤ length w + length rest)
+word-such p w a rest K = (K .v, 32 ∷ [], K .whole, K .place, tokens (K .kind), omega (arith, ap length (K .whole) ∙ length-append (K .v) (32 ∷ [])))
 
-target-lies : (p : ℕ) (w : List ℕ) (a : Piece) (rest : List ℕ) → Targeted p w a rest → PieceIn (p + length w) a × (1 ≤ length w + length rest)
-target-lies p w a rest K =
-    let l : length w ≡ length (K .v) + 1 = ap length (K .line) ∙ length-append (K .v) (32 ∷ []) in
-    (subst (PieceIn (p + length w)) (sym (K .place)) (omega (arith, l)), omega (arith, l))
+target-such : (p : ℕ) (w : List ℕ) (a : Piece) (rest : List ℕ) → Targeted p w a rest → (v u : List ℕ) × (w ≡ v ++ u) × (a ≡ piece p (p + length v)) × request-target default v × (1 ≤ length w + length rest)
+target-such p w a rest K = (K .v, 32 ∷ [], K .line, K .place, target-derived default-fixed (K .kind) (K .text), omega (arith, ap length (K .line) ∙ length-append (K .v) (32 ∷ [])))
 
-reason-lies : (p : ℕ) (w : List ℕ) (a : Piece) (rest : List ℕ) → Reasoned p w a rest → PieceIn (p + length w) a × (1 ≤ length w + length rest)
-reason-lies p w a rest (plain k s) = (omega arith, omega (arith, ap length (s .whole)))
-reason-lies p w a rest (obsolete k o l s) = (omega arith, omega (arith, ap length (s .whole)))
+reason-such : (p : ℕ) (w : List ℕ) (a : Piece) (rest : List ℕ) → Reasoned p w a rest → (v u : List ℕ) × (w ≡ v ++ u) × (a ≡ piece p (p + length v)) × Many plain-text v × (1 ≤ length w + length rest)
+reason-such p w a rest (plain k s) = (w, [], sym (append-nil w), refl, many-as (λ b. plain-is) k, omega (arith, ap length (s .whole)))
+reason-such p w a rest (obsolete k o l s) = let n : 0 ≡ p + 0 - p = omega arith in ([], w, refl, ap (λ y. record { offset = p; length = y }) n, none, omega (arith, ap length (s .whole)))
 
 module _ (r : Rules) (z : List ℕ) where
   abbrev In : RequestLine → Type 0
-  In = RequestInside (length z)
+  In = RequestInside z
 
   end-in : (k : RequestLine) (q : ℕ) → In k → In (knownOf (requests.fromEnd r z k q))
   end-in k q h = last-holds In k (λ _. k) h (lineEnd r NewLine z q) (λ x i e. h)
@@ -85,10 +89,10 @@ module _ (r : Rules) (z : List ℕ) where
   version-in k q h = chain-holds In k (requests.withVersion k) h (requests.fromEnd r z) (version z q) (λ v i e. end-in (requests.withVersion k v) i (record { method = h .method; target = h .target }))
 
   target-in : (k : RequestLine) (q : ℕ) → In k → In (knownOf (requests.fromTarget r z k q))
-  target-in k q h = chain-holds In k (requests.withTarget k) h (requests.fromVersion r z) (target z q) (λ t i e. version-in (requests.withTarget k t) i (record { method = h .method; target = piece-in exact-target target-lies z q t i e }))
+  target-in k q h = chain-holds In k (requests.withTarget k) h (requests.fromVersion r z) (target z q) (λ t i e. version-in (requests.withTarget k t) i (record { method = h .method; target = piece-in exact-target (request-target default) target-such z q t i e }))
 
   method-in : (k : RequestLine) (q : ℕ) → In k → In (knownOf (requests.fromMethod r z k q))
-  method-in k q h = chain-holds In k (requests.withMethod k) h (requests.fromTarget r z) (word isToken 32 Token z q) (λ m i e. target-in (requests.withMethod k m) i (record { method = piece-in (exact-word isToken 32 Token no-space) word-lies z q m i e; target = h .target }))
+  method-in k q h = chain-holds In k (requests.withMethod k) h (requests.fromTarget r z) (word isToken 32 Token z q) (λ m i e. target-in (requests.withMethod k m) i (record { method = piece-in (exact-word isToken 32 Token no-space) method word-such z q m i e; target = h .target }))
 
   pub request-line-in : In (knownOf (requests.requestLine r z 0))
   request-line-in =
@@ -108,12 +112,12 @@ reason-got (bad u) y a q e = let n : _≡_ {A = ℕ} 0 1 = cc in absurd (omega a
 
 module _ (r : Rules) (z : List ℕ) where
   abbrev Lies : StatusLine → Type 0
-  Lies = StatusInside (length z)
+  Lies = StatusInside z
 
   reason-in : (k : StatusLine) (q : ℕ) → Lies k → Lies (knownOf (statuses.fromReason r z k q))
   reason-in k q h =
       last-holds Lies k (statuses.withReason k) h (statuses.reasonEnd r z q)
-      (λ w i e. let g = reason-got (reason z q) (λ w i. lineEnd r Status z i) w i e in record { reason = piece-in exact-reason reason-lies z q w (g .0) (g .1) })
+      (λ w i e. let g = reason-got (reason z q) (λ w i. lineEnd r Status z i) w i e in record { reason = piece-in exact-reason (Many plain-text) reason-such z q w (g .0) (g .1) })
 
   behind-in : (k : StatusLine) (q : ℕ) → Lies k → Lies (knownOf (statuses.fromBehind r z k q))
   behind-in k q h = chain-holds Lies k (λ _. k) h (statuses.fromReason r z) (behindCode r z q) (λ x i e. reason-in k i h)

@@ -20,8 +20,8 @@ use Rattle.blocks.specs.Slots.{flat, filled, length-flat}
 use Rattle.startline.specs.Answers.{tell}
 use Rattle.heads.specs.Head.{Heads, Known, given, Told}
 use Rattle.agreement.specs.FieldLine.{fieldOf, HeaderIn}
-use Rattle.agreement.specs.Fields.{fieldsOf, Each}
-use Rattle.agreement.specs.Known.{fieldsIn, SlotsInside}
+use Rattle.agreement.specs.Fields.{fieldsOf, Each, are-fields}
+use Rattle.agreement.specs.Known.{fieldsIn, SlotsInside, AreFields}
 use Rattle.agreement.specs.Inside.{knownOf}
 use Rattle.agreement.specs.Exactly.{Exactly, Lies}
 use Rattle.agreement.specs.Promises.{HeadAt, HeadPromise}
@@ -85,7 +85,7 @@ bad-same e = cc
 bad-more : {x : Error} → Bad x ≡ More → ⊥
 bad-more e = let n : _≡_ {A = ℕ} 0 1 = cc in omega arith
 
-module _ {L K : Type 0} {Head : List ℕ → L → List Field → Type 0} {Says : List ℕ → K → L → Type 0} {s old : List ℕ} {end : Passed} {line : K} {count : ℕ} {new : List ℕ} {read : List ℕ → Heads K} {In : ℕ → K → Type 0} (X : Exactly Head Says (length old / 4) read) (Y : Lies In read) (T : Told (read s) end line count old new) where
+module _ {L K : Type 0} {Head : List ℕ → L → List Field → Type 0} {Says : List ℕ → K → L → Type 0} {s old : List ℕ} {end : Passed} {line : K} {count : ℕ} {new : List ℕ} {read : List ℕ → Heads K} {In : List ℕ → K → Type 0} (X : Exactly Head Says (length old / 4) read) (Y : Lies In read) (T : Told (read s) end line count old new) where
   -- the slots hold what the reader has given
   in-slots : fieldsIn s count new ≡ fieldsOf s (given (read s))
   in-slots = ap (λ y. fieldsIn s y new) (T .count-is) ∙ ap (fieldsIn s (length (given (read s)))) (T .slots) ∙ fields-in s (given (read s)) old
@@ -153,7 +153,8 @@ module _ {L K : Type 0} {Head : List ℕ → L → List Field → Type 0} {Says 
     error-at-all = errs-at-all;
     incomplete = waits;
     full = λ e. omega (arith, T .count-is, X .few s, X .full s (line, given (read s)) (read-bad TooManyHeaders e));
-    inside = (subst (In (length s)) (told-line T) (Y .line s), subst (λ y. SlotsInside (length s) y new) (sym (T .count-is)) (subst (SlotsInside (length s) (length (given (read s)))) (sym (T .slots)) (slots-in (length s) (given (read s)) old (Y .fields s))));
+    inside = (subst (In s) (told-line T) (Y .line s), subst (λ y. SlotsInside (length s) y new) (sym (T .count-is)) (subst (SlotsInside (length s) (length (given (read s)))) (sym (T .slots)) (slots-in (length s) (given (read s)) old (Y .fields s))));
+    fields = subst AreFields (sym in-slots) (are-fields s (given (read s)) (Y .are s));
     within = (subst (λ y. y ≤ length old / 4) (sym (T .count-is)) (X .few s), ap length (T .slots) ∙ filled-length (given (read s)) old (X .few s));
     untouched = ap (λ y. drop (y * 4) new) (T .count-is) ∙ ap (drop (length (given (read s)) * 4)) (T .slots) ∙ kept-behind (given (read s)) old ∙ sym (ap (λ y. drop (y * 4) old) (T .count-is));
   }

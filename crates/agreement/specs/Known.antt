@@ -3,8 +3,10 @@
 use Prim.Native.Nat.{ℕ, zero, suc, _+_, _≤_}
 use mathlib.Core.Path.{_≡_}
 use mathlib.Core.List.{List, [], _∷_}
-use lib.ListN.{take, drop, getD}
-use Rattle.grammar.specs.Fields.{Field}
+use lib.ListN.{length, take, drop, getD}
+use Rattle.rules.specs.Rules.{default}
+use Rattle.grammar.specs.Rows.{Many}
+use Rattle.grammar.specs.Fields.{field-name, field-value, Field}
 use Rattle.grammar.specs.Message as grammar
 use Rattle.startline.specs.declared.KnownPiece.{KnownPiece}
 use Rattle.startline.specs.declared.KnownPiece.the-variants as pieces
@@ -35,17 +37,23 @@ pub record StatusSays (z : List ℕ) (k : StatusLine) (g : grammar.StatusLine) :
   pub code : Counts (k .code) (g .code)
   pub reason : Holds z (k .reason) (g .reason)
 
--- a known piece ends within the first e bytes
-abbrev pub Inside : ℕ → KnownPiece → Type 0
-Inside e (pieces.Is a) = a .offset + a .length ≤ e
-Inside e pieces.NotYet = Unit {0}
+-- a known piece lies in the input, and its bytes are such
+abbrev pub Inside : (List ℕ → Type 0) → List ℕ → KnownPiece → Type 0
+Inside Such z (pieces.Is a) = (a .offset + a .length ≤ length z) × Such (held z a)
+Inside Such z pieces.NotYet = Unit {0}
 
-pub record RequestInside (e : ℕ) (k : RequestLine) : Type 0 where
-  pub method : Inside e (k .method)
-  pub target : Inside e (k .target)
+pub record RequestInside (z : List ℕ) (k : RequestLine) : Type 0 where
+  pub method : Inside grammar.method z (k .method)
+  pub target : Inside (grammar.request-target default) z (k .target)
 
-pub record StatusInside (e : ℕ) (k : StatusLine) : Type 0 where
-  pub reason : Inside e (k .reason)
+-- no obs-text is ever given in a reason
+pub record StatusInside (z : List ℕ) (k : StatusLine) : Type 0 where
+  pub reason : Inside (Many grammar.plain-text) z (k .reason)
+
+-- names are names and values are values
+abbrev pub AreFields : List Field → Type 0
+AreFields [] = Unit {0}
+AreFields (f ∷ fs) = field-name (f .name) × field-value (f .value) × AreFields fs
 
 -- the fields in the first count slots, four numbers each: where the name is, its length, where the value is, its length
 abbrev pub fieldsIn : List ℕ → ℕ → List ℕ → List Field

@@ -1,11 +1,11 @@
 -- What stands at a place of the input.
 -- Assumes nothing.
-use Prim.Native.Nat.{ℕ, _+_, _-_}
+use Prim.Native.Nat.{ℕ, _+_, _-_, _≤_}
 use native.Mathlib.Omega.{arith}
 use mathlib.Core.Path.{_≡_, refl, sym, ap, _∙_}
 use mathlib.Core.List.{List, [], _++_, append-assoc}
-use lib.ListN.{length, take, drop, length-append}
-use lib.Seq.{take-at, drop-at}
+use lib.ListN.{length, take, drop, length-append, take-append-drop}
+use lib.Seq.{take-at, drop-at, length-take-le}
 use Rattle.parts.specs.declared.Piece.{Piece}
 use Rattle.parts.specs.Answers.{piece}
 
@@ -21,6 +21,10 @@ pub record At (z : List ℕ) (p : ℕ) (w rest : List ℕ) : Type 0 where
 
 pub at-start : (w rest : List ℕ) → At (w ++ rest) 0 w rest
 at-start w rest = record { before = []; whole = refl; place = refl }
+
+-- what follows a place in the input stands there
+pub at-drop : (z : List ℕ) (p : ℕ) (w rest : List ℕ) → drop p z ≡ w ++ rest → p ≤ length z → At z p w rest
+at-drop z p w rest e l = record { before = take p z; whole = sym (take-append-drop p z) ∙ ap (λ y. take p z ++ y) e; place = length-take-le p z l }
 
 pub at-as : {z : List ℕ} {p : ℕ} {v w rest : List ℕ} → v ≡ w → At z p v rest → At z p w rest
 at-as {rest = rest} e h = record { before = h .before; whole = h .whole ∙ ap (λ y. h .before ++ (y ++ rest)) e; place = h .place }

@@ -14,7 +14,7 @@ use Rattle.parts.specs.declared.Passed.{Passed}
 use Rattle.parts.specs.declared.Passed.the-variants.{At, More, Bad}
 use Rattle.chunks.specs.declared.ChunkSize.{ChunkSize}
 use Rattle.chunks.specs.declared.ChunkSize.the-variants as sizes
-use Rattle.agreement.specs.Known.{fieldsIn, SlotsInside}
+use Rattle.agreement.specs.Known.{fieldsIn, SlotsInside, AreFields}
 
 -- the first q bytes are a head, and what the call told and put into the slots are its fields
 pub record HeadAt {L K : Type 0} (Head : List ℕ → L → List Field → Type 0) (Says : List ℕ → K → L → Type 0) (s : List ℕ) (q : ℕ) (line : K) (fields : List Field) : Type 0 where
@@ -26,9 +26,9 @@ pub record HeadAt {L K : Type 0} (Head : List ℕ → L → List Field → Type 
   pub head : Head bytes said fields
   pub says : Says s line said
 
--- Head is what the grammar calls a head; Says is how the call tells a start line, and In where its places may end; old and new are
+-- Head is what the grammar calls a head; Says is how the call tells a start line, and In what its places are held to; old and new are
 -- the slots before and after, four numbers each
-pub record HeadPromise {L K : Type 0} (Head : List ℕ → L → List Field → Type 0) (Says : List ℕ → K → L → Type 0) (In : ℕ → K → Type 0) (s old : List ℕ) (end : Passed) (line : K) (count : ℕ) (new : List ℕ) : Type 0 where
+pub record HeadPromise {L K : Type 0} (Head : List ℕ → L → List Field → Type 0) (Says : List ℕ → K → L → Type 0) (In : List ℕ → K → Type 0) (s old : List ℕ) (end : Passed) (line : K) (count : ℕ) (new : List ℕ) : Type 0 where
   -- nothing else is accepted: complete at q means that a head ends there, and that the places given hold its fields
   pub complete : (q : ℕ) → end ≡ At q → HeadAt Head Says s q line (fieldsIn s count new)
   -- what is allowed is accepted: a head whose fields fit the slots, whatever follows it
@@ -43,8 +43,10 @@ pub record HeadPromise {L K : Type 0} (Head : List ℕ → L → List Field → 
   pub full : end ≡ Bad TooManyHeaders → count ≡ length old / 4
   -- incomplete means that no head has ended yet
   pub incomplete : end ≡ More → (w t : List ℕ) (l : L) (fs : List Field) → s ≡ w ++ t → Head w l fs → ⊥
-  -- whatever the answer is, every place that is told lies in the input
-  pub inside : In (length s) line × SlotsInside (length s) count new
+  -- whatever the answer is, every place that is told lies in the input, and what is told of a start line is such
+  pub inside : In s line × SlotsInside (length s) count new
+  -- and the fields in the slots have names that are names and values that are values
+  pub fields : AreFields (fieldsIn s count new)
   -- the count is within the slots, of which there are as many as before, and those behind it are as they were
   pub within : (count ≤ length old / 4) × (length new ≡ length old)
   pub untouched : drop (count * 4) new ≡ drop (count * 4) old
@@ -56,8 +58,8 @@ block-alone w l fs = header-block default w fs
 abbrev pub says-nothing : List ℕ → Unit {0} → Unit {0} → Type 0
 says-nothing s k l = Unit {0}
 
-abbrev pub lies-nowhere : ℕ → Unit {0} → Type 0
-lies-nowhere e k = Unit {0}
+abbrev pub lies-nowhere : List ℕ → Unit {0} → Type 0
+lies-nowhere s k = Unit {0}
 
 -- the same of a chunk size line
 pub record ChunkPromise (s : List ℕ) (r : ChunkSize) : Type 0 where

@@ -14,7 +14,7 @@ use Rattle.utf8.specs.Grammar.{UTF8-octets}
 use Rattle.utf8.specs.Grammar as characters
 use Rattle.utf8.specs.Reader.{utf8}
 use Rattle.utf8.proofs.Exact.{utf8-exact}
-use Rattle.rules.specs.Rules.{Rules}
+use Rattle.rules.specs.Rules.{Rules, default}
 use Rattle.grammar.specs.Rows.{Many, none, more, Some, some}
 use Rattle.grammar.specs.Message.{Version, HTTP-version, one-zero, one-one, request-target, status-code, plain-text, reason-phrase}
 use Rattle.grammar.specs.Message as grammar
@@ -32,6 +32,9 @@ pub record Fixed (r : Rules) : Type 0 where
   pub known-versions : r .known-versions ≡ true
   pub any-code : r .any-code ≡ true
   pub obs-reason : r .obs-reason ≡ true
+
+pub default-fixed : Fixed default
+default-fixed = record { any-target = refl; known-versions = refl; any-code = refl; obs-reason = refl }
 
 pub clash : {t : Bool} → t ≡ true → t ≡ false → ⊥
 clash h k = false≢true (sym k ∙ h)
@@ -76,7 +79,7 @@ module _ {r : Rules} (fixed : Fixed r) where
   code-read (grammar.status-code.any h x y z) = three x y z
 
 -- a text byte is ASCII or obs-text
-plain-is : {b : ℕ} → Plain b → plain-text b
+pub plain-is : {b : ℕ} → Plain b → plain-text b
 unfolding isAscii
 plain-is {b} h = by (value-is-text b .0 (h .value))
   where

@@ -8,6 +8,7 @@ use mathlib.Core.List.{List, _++_}
 use lib.ListN.{length, take, drop}
 use lib.Seq.{take-at}
 use Rattle.rules.specs.Rules.{Rules, strict, default}
+use Rattle.grammar.specs.Rows.{Many}
 use Rattle.grammar.specs.Fields.{Field}
 use Rattle.grammar.specs.Message.{Version, request-target, request-head, status-code, response-head, header-block}
 use Rattle.grammar.specs.Message as grammar
@@ -39,7 +40,7 @@ fields-counted z zero slots = refl
 fields-counted z (suc count) slots = ap suc (fields-counted z count (drop 4 slots))
 
 -- a kind of head: how a call tells its line, what is told, and the plain form of it
-module _ {L K : Type 0} {Head : List ℕ → L → List Field → Type 0} {Says : List ℕ → K → L → Type 0} {In : ℕ → K → Type 0} (told : List ℕ → K → L) (plain : L → List Field → List ℕ)
+module _ {L K : Type 0} {Head : List ℕ → L → List Field → Type 0} {Says : List ℕ → K → L → Type 0} {In : List ℕ → K → Type 0} (told : List ℕ → K → L) (plain : L → List Field → List ℕ)
     (told-said : (z : List ℕ) (k : K) (w : List ℕ) (l : L) (fs : List Field) → Head w l fs → Says z k l → told z k ≡ l) (derived : (w : List ℕ) (l : L) (fs : List Field) → Head w l fs → Head (plain l fs) l fs) where
   -- a call is complete
   module _ {s old : List ℕ} {end : Passed} {line : K} {count : ℕ} {new : List ℕ} (P : HeadPromise Head Says In s old end line count new) {q : ℕ} (e : end ≡ At q) where
@@ -91,9 +92,9 @@ number-counted : (a : KnownNumber) {n : ℕ} → Counts a n → numberOf a ≡ n
 number-counted (numbers.Is a) h = h
 number-counted numbers.NotYet h = absurd h
 
-held-lies : (z : List ℕ) (a : KnownPiece) (w : List ℕ) → Holds z a w → Inside (length z) a → Lies z a
-held-lies z (pieces.Is a) w h i = Lies.known a i
-held-lies z pieces.NotYet w h i = absurd h
+held-lies : (Such : List ℕ → Type 0) (z : List ℕ) (a : KnownPiece) (w : List ℕ) → Holds z a w → Inside Such z a → Lies z a
+held-lies Such z (pieces.Is a) w h i = Lies.known a (i .0)
+held-lies Such z pieces.NotYet w h i = absurd h
 
 counted-most : (m : ℕ) (a : KnownNumber) {n : ℕ} → Counts a n → n ≤ m → AtMost m a
 counted-most m (numbers.Is a) h l = AtMost.known a (omega (arith, h, l))
@@ -122,8 +123,8 @@ module _ {s old : List ℕ} {head : RequestHead} {new : List ℕ} (P : RequestPr
       let H = P .complete q e in
       record {
         complete = reached e;
-        method = held-lies s (head .line .method) (H .said .method) (H .says .method) (P .inside .0 .method);
-        target = held-lies s (head .line .target) (H .said .target) (H .says .target) (P .inside .0 .target);
+        method = held-lies grammar.method s (head .line .method) (H .said .method) (H .says .method) (P .inside .0 .method);
+        target = held-lies (request-target default) s (head .line .target) (H .said .target) (H .says .target) (P .inside .0 .target);
         version = counted-most 9 (head .line .version) (H .says .version) (request-one (H .head) .1);
         headers = record { room = omega (arith, P .within .0, P .within .1); inside = P .inside .1 };
       }
@@ -164,7 +165,7 @@ module _ {s old : List ℕ} {head : ResponseHead} {new : List ℕ} (P : Response
         complete = reached e;
         version = counted-most 9 (head .line .version) (H .says .version) (d .1);
         code = counted-most 999 (head .line .code) (H .says .code) (d .2);
-        reason = held-lies s (head .line .reason) (H .said .reason) (H .says .reason) (P .inside .0 .reason);
+        reason = held-lies (Many grammar.plain-text) s (head .line .reason) (H .said .reason) (H .says .reason) (P .inside .0 .reason);
         headers = record { room = omega (arith, P .within .0, P .within .1); inside = P .inside .1 };
       }
 

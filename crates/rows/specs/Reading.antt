@@ -39,7 +39,7 @@ pub data Next {L K : Type 0} (Head : List ℕ → L → List Field → Type 0) (
   waits : Ends (read n z) More → ((w t : List ℕ) (l : L) (fs : List Field) → z ≡ w ++ t → Head w l fs → ⊥) → Next Head read n z More
   fails : {e : Error} → Ends (read n z) (Bad e) → ((u w t : List ℕ) (l : L) (fs : List Field) → z ++ u ≡ w ++ t → Head w l fs → length fs ≤ n → ⊥) → Next Head read n z (Bad e)
 
-module _ {L K : Type 0} {Head : List ℕ → L → List Field → Type 0} {read : ℕ → List ℕ → Heads K} {Says : List ℕ → K → L → Type 0} {In : ℕ → K → Type 0} (long : (w : List ℕ) (l : L) (fs : List Field) → Head w l fs → 1 ≤ length w)
+module _ {L K : Type 0} {Head : List ℕ → L → List Field → Type 0} {read : ℕ → List ℕ → Heads K} {Says : List ℕ → K → L → Type 0} {In : List ℕ → K → Type 0} (long : (w : List ℕ) (l : L) (fs : List Field) → Head w l fs → 1 ≤ length w)
     {z old : List ℕ} {line : K} {count : ℕ} {new : List ℕ} where
   next : (end : Passed) → Told (read (length old / 4) z) end line count old new → HeadPromise Head Says In z old end line count new → Next Head read (length old / 4) z end
   next (At q) T P = let H = P .complete q refl in found (H .rest) (H .whole) (H .end) (long (H .bytes) (H .said) _ (H .head)) (H .head)

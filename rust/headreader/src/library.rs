@@ -1,9 +1,8 @@
 //! The proved code by its C functions, and what their numbers mean.
 //!
-//! Each function passes on the answer of one call of the crate `calls`. Every `unsafe` here and in
-//! `slots` rests on what is proved of that call, whatever it answers: its promises `inside`,
-//! `within` and `untouched` (`docs/PROVED.md`), and `exact-word`, `exact-target` and `exact-reason`
-//! (`crates/leaves`), which say what bytes a part has that was read; a field is known only then.
+//! Each function is proved to tell the answer of one call of the crate `calls`. Every `unsafe` here
+//! and in `slots` rests on what that call promises, whatever it answers: `inside`, `fields`, `within`
+//! and `untouched` (`docs/PROVED.md`).
 
 use crate::slots::Slots;
 use crate::{piece, Error, Header, InvalidChunkSize, Result, Status};
@@ -85,12 +84,11 @@ pub fn request<'lent, 'buf>(
     // SAFETY: that call was lent these slots and this buffer, and nothing has touched the slots
     // since.
     let headers = unsafe { slots.into_headers(given, buffer) };
-    // SAFETY: by `inside` a known method lies in the buffer, and by `exact-word` it is a `token`,
-    // so it is ASCII.
+    // SAFETY: by `inside` a known method lies in the buffer and is a `token`, so it is ASCII.
     let method =
         is_in(known, METHOD).then(|| unsafe { piece::text(buffer, method, method_length) });
-    // SAFETY: by `inside` a known target lies in the buffer, and by `exact-target` and `utf8-exact`
-    // it is UTF-8.
+    // SAFETY: by `inside` a known target lies in the buffer and is a `request-target`, which is
+    // visible ASCII or else UTF-8.
     let target =
         is_in(known, TARGET).then(|| unsafe { piece::text(buffer, target, target_length) });
     let version = is_in(known, VERSION).then_some(version as u8);
@@ -122,8 +120,8 @@ pub fn response<'lent, 'buf>(
     let headers = unsafe { slots.into_headers(given, buffer) };
     let version = is_in(known, VERSION).then_some(version as u8);
     let code = is_in(known, CODE).then_some(code as u16);
-    // SAFETY: by `inside` a known reason lies in the buffer (an empty one is told as 0 bytes at 0),
-    // and by `exact-reason` it is `plain-text` or empty, so it is ASCII.
+    // SAFETY: by `inside` a known reason lies in the buffer (an empty one is told as 0 bytes at 0)
+    // and is `plain-text`, so it is ASCII.
     let reason =
         is_in(known, REASON).then(|| unsafe { piece::text(buffer, reason, reason_length) });
     Answer {

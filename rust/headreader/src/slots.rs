@@ -86,8 +86,8 @@ unsafe fn turn<'buf>(slot: *mut Header<'buf>, buffer: &'buf [u8]) {
     // SAFETY: a slot that was given has all four numbers, and a header's size and alignment are
     // theirs.
     let [name, name_length, value, value_length] = unsafe { slot.cast::<Numbers>().read() };
-    // SAFETY: by `inside` both places lie in the buffer, and by `exact-word` the name is a `token`,
-    // so it is ASCII.
+    // SAFETY: by `inside` both places lie in the buffer, and by `fields` the name is a `token`, so it
+    // is ASCII.
     unsafe {
         slot.write(Header {
             name: piece::text(buffer, name, name_length),
