@@ -3,10 +3,11 @@
 use Prim.Native.Nat.{ℕ, zero, suc, _+_, _-_, _≤_, _<_}
 use native.Mathlib.Decide.{decLt}
 use native.Mathlib.Omega.{arith}
-use mathlib.Core.Path.{_≡_}
+use mathlib.Core.Path.{_≡_, sym, ap, _∙_}
 use mathlib.Core.List.{List}
 use mathlib.Core.Bool.{Bool, true, false, not, _&&_, _||_, cond}
-use lib.ListN.{length, getD}
+use lib.ListN.{length, take, getD}
+use lib.Seq.{length-take-le, getD-take}
 use Rattle.reader.specs.Machine.{keep, before, Step, runAt}
 use Rattle.reader.specs.Skip.{Passed, Skipped, passed-part, skip}
 use Rattle.reader.specs.Laws.{run-in, run-out}
@@ -51,6 +52,28 @@ module _ (xs : List ℕ) (a : ℕ) where
   inside-out zero i obs e v = rw (run-out reasonStep (inside a obs) xs i (omega arith))
   inside-out (suc d) i obs e v = rw (run-in reasonStep (inside a obs) xs i (omega arith), v i (omega arith) (omega arith)) (inside-out d (i + 1) _ (omega arith) (λ k lo hi. v k (omega arith) hi))
 
+-- the bytes before r are r
+pub part-size : (r : ℕ) (xs : List ℕ) → r < length xs → r ≡ length (take r xs)
+part-size r xs l = sym (length-take-le r xs (omega (arith, l)))
+
+-- a skip over the bytes before r, as one over all of them
+module _ (xs : List ℕ) (r : ℕ) {at q : ℕ} (k : Skipped isAscii (take r xs) at q) (a : at ≤ r) (l : r < length xs) where
+  size : r ≡ length (take r xs)
+  size = part-size r xs l
+
+  within : q ≤ r
+  within = omega (arith, k .passed .inside (omega (arith, a, size)), size)
+
+  part-passed : Passed isAscii xs at q
+  part-passed = record {
+    from = k .passed .from;
+    inside = λ h. omega (arith, within, l);
+    all = λ j lo hi. ap isAscii (sym (getD-take r xs j 0 (omega (arith, hi, within)))) ∙ k .passed .all j lo hi;
+  }
+
+  part-stop : q < r → isAscii (getD xs q 0) ≡ false
+  part-stop h = ap isAscii (sym (getD-take r xs q 0 h)) ∙ k .stop (omega (arith, h, size))
+
 module _ (xs : List ℕ) (at : ℕ) {r : ℕ} (v : Skipped isValue xs at r) where
   pub reason-more : length xs ≤ r → short tt ≡ reason xs at
   reason-more l = go (decLt at (length xs))
@@ -62,27 +85,30 @@ module _ (xs : List ℕ) (at : ℕ) {r : ℕ} (v : Skipped isValue xs at r) wher
           (inside-out xs at (length xs - (at + 1)) (at + 1) _ d (λ k lo hi. v .passed .all k (omega arith) (omega arith)))
       go (no h) = rw (run-out reasonStep none xs at (omega arith))
 
-  module _ {q : ℕ} (c : Skipped isAscii xs at q) (l : r < length xs) where
+  module _ {q : ℕ} (k : Skipped isAscii (take r xs) at q) (l : r < length xs) where
+    c : Passed isAscii xs at q
+    c = part-passed xs r k (v .passed .from) l
+
     pub reason-plain : r ≤ q → got (piece at r) r ≡ reason xs at
     reason-plain e = go (decLt at r)
       where
         go : Dec (at < r) → got (piece at r) r ≡ reason xs at
         go (yes h) =
-            rw (run-in reasonStep none xs at (omega arith), v .passed .all at (omega arith) h, c .passed .all at (omega arith) (omega arith), plain-passed xs at {i = at + 1} {j = r} (omega arith) (passed-part (at + 1) r (v .passed) (omega arith) (omega arith) (omega arith)) (passed-part (at + 1) r (c .passed) (omega arith) (omega arith) e), run-in reasonStep (inside at false) xs r l, v .stop l)
+            rw (run-in reasonStep none xs at (omega arith), v .passed .all at (omega arith) h, c .all at (omega arith) (omega arith), plain-passed xs at {i = at + 1} {j = r} (omega arith) (passed-part (at + 1) r (v .passed) (omega arith) (omega arith) (omega arith)) (passed-part (at + 1) r c (omega arith) (omega arith) e), run-in reasonStep (inside at false) xs r l, v .stop l)
         go (no h) = let u : r ≡ at = omega (arith, v .passed .from) in rw (u, run-in reasonStep none xs at (omega arith), rw u at (v .stop l))
 
     pub reason-obs : q < r → got (empty at) r ≡ reason xs at
     reason-obs e = go (decLt at q)
       where
         behind : runAt reasonStep (inside at true) xs (q + 1) ≡ runAt reasonStep (inside at true) xs r
-        behind = obs-passed xs at (omega arith) (passed-part (q + 1) r (v .passed) (omega (arith, c .passed .from)) (omega arith) (omega arith))
+        behind = obs-passed xs at (omega arith) (passed-part (q + 1) r (v .passed) (omega (arith, c .from)) (omega arith) (omega arith))
 
         go : Dec (at < q) → got (empty at) r ≡ reason xs at
         go (yes h) =
-            rw (run-in reasonStep none xs at (omega arith), v .passed .all at (omega arith) (omega arith), c .passed .all at (omega arith) h, plain-passed xs at {i = at + 1} {j = q} (omega arith) (passed-part (at + 1) q (v .passed) (omega arith) (omega arith) (omega arith)) (passed-part (at + 1) q (c .passed) (omega arith) (omega arith) (omega arith)), run-in reasonStep (inside at false) xs q (omega arith), v .passed .all q (omega arith) e, c .stop (omega arith), behind, run-in reasonStep (inside at true) xs r l, v .stop l)
+            rw (run-in reasonStep none xs at (omega arith), v .passed .all at (omega arith) (omega arith), c .all at (omega arith) h, plain-passed xs at {i = at + 1} {j = q} (omega arith) (passed-part (at + 1) q (v .passed) (omega arith) (omega arith) (omega arith)) (passed-part (at + 1) q c (omega arith) (omega arith) (omega arith)), run-in reasonStep (inside at false) xs q (omega arith), v .passed .all q (omega arith) e, part-stop xs r k (v .passed .from) l e, behind, run-in reasonStep (inside at true) xs r l, v .stop l)
         go (no h) =
-            let u : q ≡ at = omega (arith, c .passed .from) in
-            let s : isAscii (getD xs at 0) ≡ false = rw u at (c .stop (omega arith)) in
+            let u : q ≡ at = omega (arith, c .from) in
+            let s : isAscii (getD xs at 0) ≡ false = rw u at (part-stop xs r k (v .passed .from) l e) in
             let b : runAt reasonStep (inside at true) xs (at + 1) ≡ runAt reasonStep (inside at true) xs r = rw u at behind in
             rw (run-in reasonStep none xs at (omega arith), v .passed .all at (omega arith) (omega arith), s, b, run-in reasonStep (inside at true) xs r l, v .stop l)
 

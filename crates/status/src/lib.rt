@@ -63,7 +63,8 @@ pub fn reason(s: &[u8], at: usize) -> Found
     if s.len() <= end {
         return Found::More;
     }
-    let plain = skips::skip_ascii(s, at);
+    // no further than the reason: what stands behind a head is not looked at
+    let plain = skips::skip_ascii(&s[..end], at);
     if plain < end {
         return Found::At(
             Piece {

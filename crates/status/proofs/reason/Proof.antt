@@ -1,7 +1,7 @@
 -- `status::reason` meets its contract: the bytes up to the end are text, and all of them plain or one of them not.
 -- Assumes nothing.
 use borrow.Author.Needs.{needs}
-use Rattle.status.specs.Reason.{reasons}
+use Rattle.status.specs.Reason.{part-size, reasons}
 use Rattle.status.proofs.reason.Statement.{statement}
 use Rattle.status.proofs.reason.Tie as tie
 
@@ -11,6 +11,7 @@ reason-spec =
     (tie.spec
     (λ c κs. search needs)
     (λ c. search (needs, reasons))
+    (λ c. search (needs, part-size))
     (λ c κs. search needs)
     (λ c. search (needs, reasons))
     (λ c. search needs)
