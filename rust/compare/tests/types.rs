@@ -12,7 +12,7 @@ use compare::{on_all_cores, Case, Random, CALLS};
 const SEED: u64 = 7230;
 
 /// How many bytes are tried behind each start.
-const DEPTH: usize = 4;
+const DEPTH: usize = 5;
 
 /// Heads up to this length are damaged at every place, longer ones at places chosen at random.
 const SHORT: usize = 150;
