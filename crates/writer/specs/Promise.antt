@@ -54,14 +54,14 @@ form-length {before = before} a = a .behind [] before (nothing-put before) .behi
 
 -- what may be written, once it is known to lie in the input
 module _ {s slots : List ℕ} {b : Bool} where
-  pub request-writable : {head : RequestHead} → Decides (RequestLies s head slots) b → b ≡ true → RequestLies s head slots
-  request-writable d t = d .yes t
+  pub request-decided : {head : RequestHead} → Decides (RequestLies s head slots) b → b ≡ true → RequestLies s head slots
+  request-decided d t = d .yes t
 
-  pub response-writable : {head : ResponseHead} → Decides (ResponseLies s head slots) b → b ≡ true → ResponseLies s head slots
-  response-writable d t = d .yes t
+  pub response-decided : {head : ResponseHead} → Decides (ResponseLies s head slots) b → b ≡ true → ResponseLies s head slots
+  response-decided d t = d .yes t
 
-  pub block-writable : {block : Block} → Decides (BlockLies s block slots) b → b ≡ true → SlotsLie s (block .count) slots
-  block-writable d t = d .yes t .headers
+  pub block-decided : {block : Block} → Decides (BlockLies s block slots) b → b ≡ true → SlotsLie s (block .count) slots
+  block-decided d t = d .yes t .headers
 
 module _ {Writable : Type 0} {form old : List ℕ} where
   pub not-writable : {b : Bool} → Decides Writable b → b ≡ false → PlainPromise Writable form old Unwritable old

@@ -2,7 +2,7 @@
 -- Assumes nothing.
 use borrow.Author.Needs.{needs}
 use borrow.Author.Tests.{not-true, not-false}
-use Rattle.writer.specs.Promise.{response-writable, not-writable, no-number, no-room, all-written}
+use Rattle.writer.specs.Promise.{response-decided, not-writable, no-number, no-room, all-written}
 use Rattle.writer.proofs.plain_response.Statement.{statement}
 use Rattle.writer.proofs.plain_response.Tie as tie
 
@@ -13,9 +13,9 @@ plain-response-spec =
     (λ c κs. search needs)
     (λ c. search (needs, not-true, not-writable))
     (λ c. search needs)
-    (λ c κs. search (needs, not-false, response-writable))
+    (λ c κs. search (needs, not-false, response-decided))
     (λ c. search (needs, not-false, no-number))
     (λ c. search (needs, not-false, no-room))
-    (λ c κs. search (needs, not-false, response-writable))
+    (λ c κs. search (needs, not-false, response-decided))
     (λ c. search needs)
     (λ c. search (needs, not-false, all-written)))
