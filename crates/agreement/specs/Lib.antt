@@ -19,4 +19,7 @@ pub mod Exactly
 pub mod Promises
 pub mod Kept
 pub mod Calls
+pub mod Loose
+pub mod ChunkDerived
+pub mod ChunkRead
 pub mod Chunk

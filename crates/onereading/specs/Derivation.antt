@@ -27,7 +27,7 @@ use Rattle.agreement.specs.Known.{Holds, Counts, RequestSays, StatusSays}
 use Rattle.agreement.specs.Promises.{block-alone}
 use Rattle.agreement.specs.Exactly.{Exactly}
 use Rattle.agreement.specs.Calls.{request-exactly, response-exactly, headersOf, headers-exactly}
-use Rattle.agreement.specs.Chunk.{chunk-read}
+use Rattle.agreement.specs.ChunkRead.{chunk-read}
 use Rattle.onereading.specs.Statements.{OneHead, OneChunk}
 
 -- what an answer was given for is the same on either side
