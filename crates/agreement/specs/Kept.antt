@@ -1,6 +1,6 @@
 -- The promises are kept wherever a call tells what an exact reader answers.
 -- Assumes nothing.
-use Prim.Native.Nat.{ℕ, _+_, _*_, _/_, _≤_, _<_}
+use Prim.Native.Nat.{ℕ, zero, suc, _+_, _*_, _/_, _≤_, _<_}
 use native.Mathlib.Omega.{arith}
 use mathlib.Core.Path.{_≡_, refl, sym, ap, subst, _∙_}
 use mathlib.Core.List.{List, [], _∷_, _++_}
@@ -62,10 +62,15 @@ module _ {K : Type 0} where
   same-got More k k′ hs hs′ q e = let n : _≡_ {A = ℕ} 0 1 = cc in absurd (omega arith)
   same-got (Bad x) k k′ hs hs′ q e = let n : _≡_ {A = ℕ} 0 1 = cc in absurd (omega arith)
 
-  same-bad : (end : Passed) (k k′ : K) (hs hs′ : List Header) (x : Error) → _≡_ {A = Heads K} (tell end (k, hs)) (bad (x, (k′, hs′))) → (end ≡ Bad x) × (k ≡ k′) × (hs ≡ hs′)
+  pub same-bad : (end : Passed) (k k′ : K) (hs hs′ : List Header) (x : Error) → _≡_ {A = Heads K} (tell end (k, hs)) (bad (x, (k′, hs′))) → (end ≡ Bad x) × (k ≡ k′) × (hs ≡ hs′)
   same-bad (At p) k k′ hs hs′ q e = let n : _≡_ {A = ℕ} 0 1 = cc in absurd (omega arith)
   same-bad More k k′ hs hs′ q e = let n : _≡_ {A = ℕ} 0 1 = cc in absurd (omega arith)
   same-bad (Bad x) k k′ hs hs′ q e = let u : _≡_ {A = Error × Known K} (x, (k, hs)) (q, (k′, hs′)) = cc in (ap (λ y. Bad (y .0)) u, ap (λ y. y .1 .0) u, ap (λ y. y .1 .1) u)
+
+-- as many fields are in the slots as are counted
+pub fields-counted : (z : List ℕ) (count : ℕ) (slots : List ℕ) → length (fieldsIn z count slots) ≡ count
+fields-counted z zero slots = refl
+fields-counted z (suc count) slots = ap suc (fields-counted z count (drop 4 slots))
 
 -- what a call tells of the start line is what the reader knows of it
 pub told-line : {K : Type 0} {a : Heads K} {end : Passed} {line : K} {count : ℕ} {old new : List ℕ} → Told a end line count old new → knownOf a .0 ≡ line

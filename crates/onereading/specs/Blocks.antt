@@ -25,7 +25,7 @@ pub record Starts (hs all : List Header) : Type 0 where
   pub more : List Header
   pub whole : all ≡ hs ++ more
 
-starts-refl : (hs : List Header) → Starts hs hs
+pub starts-refl : (hs : List Header) → Starts hs hs
 starts-refl hs = record { more = []; whole = sym (append-nil hs) }
 
 starts-more : (hs all : List Header) (h : Header) → Starts hs all → Starts hs (all ++ (h ∷ []))
@@ -72,10 +72,20 @@ unfolding flat
 flat-append [] ks = refl
 flat-append (h ∷ hs) ks = ap (λ y. numbers h ++ y) (flat-append hs ks)
 
-pub slots-same : (hs all : List Header) (old : List ℕ) → Starts hs all → take (length hs * 4) (filled all old) ≡ take (length hs * 4) (filled hs old)
-unfolding filled
-slots-same hs all old s =
-    ap (λ y. take (length hs * 4) (y ++ drop (length all * 4) old)) (ap flat (s .whole) ∙ flat-append hs (s .more))
-    ∙ ap (take (length hs * 4)) (append-assoc (flat hs) (flat (s .more)) (drop (length all * 4) old))
-    ∙ take-at (flat hs) (flat (s .more) ++ drop (length all * 4) old) (length hs * 4) (length-flat hs)
-    ∙ sym (take-at (flat hs) (drop (length hs * 4) old) (length hs * 4) (length-flat hs))
+-- whatever stood in the slots before, old and then old′
+module _ (hs : List Header) (old old′ : List ℕ) where
+  first-slots : take (length hs * 4) (filled hs old) ≡ flat hs
+  unfolding filled
+  first-slots = take-at (flat hs) (drop (length hs * 4) old) (length hs * 4) (length-flat hs)
+
+  pub slots-same : (all : List Header) → Starts hs all → take (length hs * 4) (filled all old′) ≡ take (length hs * 4) (filled hs old)
+  unfolding filled
+  slots-same all s =
+      ap (λ y. take (length hs * 4) (y ++ drop (length all * 4) old′)) (ap flat (s .whole) ∙ flat-append hs (s .more))
+      ∙ ap (take (length hs * 4)) (append-assoc (flat hs) (flat (s .more)) (drop (length all * 4) old′))
+      ∙ take-at (flat hs) (flat (s .more) ++ drop (length all * 4) old′) (length hs * 4) (length-flat hs)
+      ∙ sym first-slots
+
+  pub slots-again : filled hs old′ ≡ take (length hs * 4) (filled hs old) ++ drop (length hs * 4) old′
+  unfolding filled
+  slots-again = ap (λ y. y ++ drop (length hs * 4) old′) (sym first-slots)

@@ -3,6 +3,8 @@ pub mod Later
 pub mod Lines
 pub mod Blocks
 pub mod Stays
+pub mod MoreSlots
 pub mod Derivation
 pub mod Rows
+pub mod RowsStay
 pub mod RoundTrip

@@ -1,7 +1,7 @@
 -- What was read can be written; a call on what was written is complete at its end and gives the same fields back; and written again
 -- these are the same bytes.
 -- Assumes nothing.
-use Prim.Native.Nat.{ℕ, zero, suc, _/_, _≤_, _<_}
+use Prim.Native.Nat.{ℕ, _/_, _≤_, _<_}
 use native.Mathlib.Omega.{arith}
 use mathlib.Core.Path.{_≡_, refl, sym, ap, subst, _∙_}
 use mathlib.Core.List.{List, _++_}
@@ -24,6 +24,7 @@ use Rattle.heads.specs.declared.RequestHead.{RequestHead}
 use Rattle.heads.specs.declared.ResponseHead.{ResponseHead}
 use Rattle.blocks.specs.declared.Block.{Block}
 use Rattle.agreement.specs.Known.{Holds, Counts, RequestSays, StatusSays, Inside, RequestInside, StatusInside, fieldsIn}
+use Rattle.agreement.specs.Kept.{fields-counted}
 use Rattle.agreement.specs.Promises.{HeadPromise, block-alone, says-nothing, lies-nowhere}
 use Rattle.plain.specs.Plain.{plain-code, plain-request, plain-response, plain-fields}
 use Rattle.plain.specs.Derived.{plain-block, plain-request-derived, plain-request-strict, plain-response-derived, plain-response-strict}
@@ -34,10 +35,6 @@ use Rattle.output.specs.Put.{greatest}
 use Rattle.writer.specs.Promise.{request-form, response-form, block-form, PlainPromise, was-written, writes}
 use Rattle.onereading.specs.Statements.{ReadBack, WrittenAgain}
 use Rattle.onereading.specs.Derivation.{request-one, response-one}
-
-fields-counted : (z : List ℕ) (count : ℕ) (slots : List ℕ) → length (fieldsIn z count slots) ≡ count
-fields-counted z zero slots = refl
-fields-counted z (suc count) slots = ap suc (fields-counted z count (drop 4 slots))
 
 -- a kind of head: how a call tells its line, what is told, and the plain form of it
 module _ {L K : Type 0} {Head : List ℕ → L → List Field → Type 0} {Says : List ℕ → K → L → Type 0} {In : List ℕ → K → Type 0} (told : List ℕ → K → L) (plain : L → List Field → List ℕ)

@@ -4,7 +4,8 @@ use Prim.Native.Nat.{ℕ, _+_, _≤_}
 use native.Mathlib.Omega.{arith}
 use mathlib.Core.Path.{_≡_, refl, sym, ap, subst, _∙_}
 use mathlib.Core.List.{List, [], _∷_, _++_, append-assoc, append-nil}
-use lib.ListN.{length, drop, length-append}
+use lib.ListN.{length, take, drop, length-append}
+use lib.Seq.{take-at}
 use Rattle.rules.specs.Rules.{default}
 use Rattle.grammar.specs.Fields.{Field}
 use Rattle.grammar.specs.Message.{request-head, response-head}
@@ -12,9 +13,9 @@ use Rattle.heads.specs.Head.{Heads}
 use Rattle.heads.specs.Calls.{request, response}
 use Rattle.rows.specs.declared.Stop.{Stop}
 use Rattle.rows.specs.declared.Stop.the-variants as stops
-use Rattle.rows.specs.Row.{Row, none, more, Stopped, all-read, full, unfinished, wrong}
+use Rattle.rows.specs.Row.{Row, none, more, Fitting, Stopped, all-read, full, unfinished, wrong}
 use Rattle.rows.specs.Reading.{head-long}
-use Rattle.onereading.specs.Statements.{OneHead, OneRow, Fitting, ReadsRow, ReadsFirst}
+use Rattle.onereading.specs.Statements.{OneHead, OneRow, ReadsRow, ReadsFirst}
 use Rattle.onereading.specs.Derivation.{same-rest, one-request, one-response}
 
 -- a row goes on behind its first heads
@@ -26,7 +27,7 @@ record Onward {L : Type 0} (Head : List ℕ → L → List Field → Type 0) (at
   pub all-ends : ds ≡ es ++ ends
 
 -- two rows at the start of the same bytes: the first goes on behind the second, or another head of the second is next in rest
-data Beside {L : Type 0} (Head : List ℕ → L → List Field → Type 0) (rest : List ℕ) (gs hs : List (L × List Field)) (ds es : List ℕ) : Type 0 where
+pub data Beside {L : Type 0} (Head : List ℕ → L → List Field → Type 0) (rest : List ℕ) (gs hs : List (L × List Field)) (ds es : List ℕ) : Type 0 where
   beyond : (more : List (L × List Field)) (ends : List ℕ) → gs ≡ hs ++ more → ds ≡ es ++ ends → Beside Head rest gs hs ds es
   short : (w v : List ℕ) (l : L) (fs : List Field) (left : List (L × List Field)) → Head w l fs → rest ≡ w ++ v → hs ≡ gs ++ ((l, fs) ∷ left) → Beside Head rest gs hs ds es
 
@@ -62,26 +63,26 @@ module _ {L : Type 0} {Head : List ℕ → L → List Field → Type 0} (long : 
       let z = row-empty (o .row) refl in
       (sym (o .all ∙ ap (λ y. hs ++ y) (z .0) ∙ append-nil hs), sym (o .all-ends ∙ ap (λ y. es ++ y) (z .1) ∙ append-nil es))
 
-  ends-count : {at : ℕ} {w : List ℕ} {hs : List (L × List Field)} {es : List ℕ} → Row Head at w hs es → length es ≡ length hs
+  pub ends-count : {at : ℕ} {w : List ℕ} {hs : List (L × List Field)} {es : List ℕ} → Row Head at w hs es → length es ≡ length hs
   ends-count none = refl
   ends-count (more h k) = omega (arith, ends-count k)
 
-  fitting-behind : (n : ℕ) (hs gs : List (L × List Field)) → Fitting n (hs ++ gs) → Fitting n gs
+  pub fitting-behind : (n : ℕ) (hs gs : List (L × List Field)) → Fitting n (hs ++ gs) → Fitting n gs
   fitting-behind n [] gs f = f
   fitting-behind n (h ∷ hs) gs f = fitting-behind n hs gs (f .1)
 
   -- where a row of heads that fit is left, the reading stopped at the end of all of it
-  stopped-end : {K : Type 0} {read : ℕ → List ℕ → Heads K} {n : ℕ} {rest : List ℕ} {count room : ℕ} {x : Stop} → Stopped Head read n rest count room x → {at : ℕ} {hs : List (L × List Field)} {es : List ℕ} → Row Head at rest hs es → Fitting n hs → count + length hs ≤ room → (x ≡ stops.End) × (rest ≡ [])
+  stopped-end : {K : Type 0} {read : ℕ → List ℕ → Heads K} {n : ℕ} {rest : List ℕ} {count room : ℕ} {left slots : List ℕ} {x : Stop} → Stopped Head read n rest count room left x slots → {at : ℕ} {hs : List (L × List Field)} {es : List ℕ} → Row Head at rest hs es → Fitting n hs → count + length hs ≤ room → (x ≡ stops.End) × (rest ≡ [])
   stopped-end (all-read e) r f h = (refl, e)
   stopped-end (full e l) none f h = absurd (omega (arith, l))
   stopped-end (full e l) (more d k) f h = absurd (omega (arith, e, h))
-  stopped-end (unfinished a y l) none f h = absurd (omega (arith, l))
-  stopped-end (unfinished a y l) (more {w = w} {v = v} {l = k} {fs = fs} d q) f h = absurd (y w v k fs refl d)
-  stopped-end (wrong a y l) none f h = absurd (omega (arith, l))
-  stopped-end (wrong a y l) (more {w = w} {v = v} {l = k} {fs = fs} d q) f h = absurd (y [] w v k fs (append-nil (w ++ v)) d (f .0))
+  stopped-end (unfinished a y l m) none f h = absurd (omega (arith, l))
+  stopped-end (unfinished a y l m) (more {w = w} {v = v} {l = k} {fs = fs} d q) f h = absurd (y w v k fs refl d)
+  stopped-end (wrong a y z l m) none f h = absurd (omega (arith, l))
+  stopped-end (wrong a y z l m) (more {w = w} {v = v} {l = k} {fs = fs} d q) f h = absurd (y [] w v k fs (append-nil (w ++ v)) d (f .0))
 
   row-read : {K : Type 0} (read : ℕ → List ℕ → Heads K) → ReadsRow Head read
-  row-read read n s old r new P hs es q f h =
+  row-read read n s slots old r slots′ new P hs es q f h =
       let o = onward (P .row) (P .rest) q (P .whole) in
       let c : length hs ≡ length (P .heads) + length (o .heads) = ap length (o .all) ∙ length-append (P .heads) (o .heads) in
       let i : length (P .ends) ≡ length (P .heads) = ends-count (P .row) in
@@ -96,7 +97,7 @@ module _ {L : Type 0} {Head : List ℕ → L → List Field → Type 0} (long : 
   beside-more {gs = gs} {ds = ds} {h = h} {e = e} i j (beyond fs ends a b) = beyond fs ends (ap (λ y. y ∷ gs) i ∙ ap (λ y. h ∷ y) a) (ap (λ y. y ∷ ds) j ∙ ap (λ y. e ∷ y) b)
   beside-more {hs = hs} {g = g} i j (short w v l fs left d z a) = short w v l fs left d z (ap (λ y. y ∷ hs) (sym i) ∙ ap (λ y. g ∷ y) a)
 
-  beside : {at : ℕ} {b : List ℕ} {gs : List (L × List Field)} {ds : List ℕ} → Row Head at b gs ds → (rest : List ℕ) {v : List ℕ} {hs : List (L × List Field)} {es : List ℕ} → Row Head at v hs es → (t : List ℕ) → b ++ rest ≡ v ++ t → Beside Head rest gs hs ds es
+  pub beside : {at : ℕ} {b : List ℕ} {gs : List (L × List Field)} {ds : List ℕ} → Row Head at b gs ds → (rest : List ℕ) {v : List ℕ} {hs : List (L × List Field)} {es : List ℕ} → Row Head at v hs es → (t : List ℕ) → b ++ rest ≡ v ++ t → Beside Head rest gs hs ds es
   beside none rest none t e = beyond [] [] refl refl
   beside none rest (more {w = w} {v = v} {l = l} {fs = fs} {rest = hs} h k) t e = short w (v ++ t) l fs hs h (e ∙ append-assoc w v t) refl
   beside (more {l = l} {fs = fs} {rest = gs} {ends = ds} h k) rest none t e = beyond ((l, fs) ∷ gs) _ refl refl
@@ -107,17 +108,24 @@ module _ {L : Type 0} {Head : List ℕ → L → List Field → Type 0} (long : 
       beside-more (ap (λ y. (y, fs)) (u .1) ∙ ap (λ y. (l′, y)) (u .2)) (sym m) (beside k rest (subst (λ y. Row Head y v′ hs es) m k′) t (same-rest w (v ++ rest) w′ (v′ ++ t) f (u .0)))
 
   -- the reading does not stop before a head that fits, where there is room for its end
-  never-before : {K : Type 0} {read : ℕ → List ℕ → Heads K} {n : ℕ} {rest : List ℕ} {count room : ℕ} {x : Stop} → Stopped Head read n rest count room x → (w v : List ℕ) (l : L) (fs : List Field) → Head w l fs → rest ≡ w ++ v → length fs ≤ n → count + 1 ≤ room → ⊥
+  never-before : {K : Type 0} {read : ℕ → List ℕ → Heads K} {n : ℕ} {rest : List ℕ} {count room : ℕ} {left slots : List ℕ} {x : Stop} → Stopped Head read n rest count room left x slots → (w v : List ℕ) (l : L) (fs : List Field) → Head w l fs → rest ≡ w ++ v → length fs ≤ n → count + 1 ≤ room → ⊥
   never-before (all-read e) w v l fs d z f h = omega (arith, ap length (sym z ∙ e), length-append w v, long w l fs d)
   never-before (full e i) w v l fs d z f h = omega (arith, e, h)
-  never-before (unfinished a y i) w v l fs d z f h = y w v l fs z d
-  never-before {rest = rest} (wrong a y i) w v l fs d z f h = y [] w v l fs (append-nil rest ∙ z) d f
+  never-before (unfinished a y i m) w v l fs d z f h = y w v l fs z d
+  never-before {rest = rest} (wrong a y x i m) w v l fs d z f h = y [] w v l fs (append-nil rest ∙ z) d f
 
-  row-first : {K : Type 0} (read : ℕ → List ℕ → Heads K) → ReadsFirst Head read
-  row-first read n v t old r new P hs es q f h = by (beside (P .row) (P .rest) q t (sym (P .whole)))
+  pub row-first : {K : Type 0} (read : ℕ → List ℕ → Heads K) → ReadsFirst Head read
+  row-first read n v t slots old r slots′ new P hs es q f h = by (beside (P .row) (P .rest) q t (sym (P .whole)))
     where
-      by : Beside Head (P .rest) (P .heads) hs (P .ends) es → (more : List (L × List Field)) × (ends : List ℕ) × (P .heads ≡ hs ++ more) × (P .ends ≡ es ++ ends)
-      by (beyond gs ds a b) = (gs, ds, a, b)
+      k : length es ≡ length hs
+      k = ends-count q
+
+      by : Beside Head (P .rest) (P .heads) hs (P .ends) es → (length hs ≤ r .count) × (take (length hs) new ≡ es) × (take (length hs) (P .heads) ≡ hs)
+      by (beyond gs ds a b) = (
+        omega (arith, k, P .count, ap length b, length-append es ds),
+        ap (take (length hs)) (P .kept ∙ ap (λ y. y ++ drop (length (P .ends)) old) b ∙ append-assoc es ds (drop (length (P .ends)) old)) ∙ take-at es (ds ++ drop (length (P .ends)) old) (length hs) k,
+        ap (take (length hs)) a ∙ take-at hs gs (length hs) refl,
+      )
       by (short w v l fs left d z a) =
           let c = ap length a ∙ length-append (P .heads) ((l, fs) ∷ left) in
           absurd (never-before (P .stopped) w v l fs d z (fitting-behind n (P .heads) ((l, fs) ∷ left) (subst (Fitting n) a f) .0) (omega (arith, h, c, ends-count (P .row), P .count)))

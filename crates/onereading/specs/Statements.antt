@@ -2,13 +2,15 @@
 -- Assumes nothing.
 use Prim.Native.Nat.{ℕ, _*_, _≤_}
 use mathlib.Core.Path.{_≡_}
-use mathlib.Core.List.{List, [], _∷_, _++_}
+use mathlib.Core.List.{List, _++_}
 use lib.ListN.{length, take, drop}
 use Rattle.rules.specs.Rules.{default}
 use Rattle.grammar.specs.Fields.{Field}
 use Rattle.grammar.specs.Chunked.{chunk-line}
+use Rattle.parts.specs.declared.Error.{Error}
+use Rattle.parts.specs.declared.Error.the-variants.{TooManyHeaders}
 use Rattle.parts.specs.declared.Passed.{Passed}
-use Rattle.parts.specs.declared.Passed.the-variants.{At, More}
+use Rattle.parts.specs.declared.Passed.the-variants.{At, More, Bad}
 use Rattle.startline.specs.declared.KnownPiece.{KnownPiece}
 use Rattle.startline.specs.declared.KnownPiece.the-variants as pieces
 use Rattle.startline.specs.declared.KnownNumber.{KnownNumber}
@@ -23,7 +25,7 @@ use Rattle.writer.specs.declared.Plain.{Plain}
 use Rattle.writer.specs.declared.Plain.the-variants.{Written}
 use Rattle.rows.specs.declared.RowRead.{RowRead}
 use Rattle.rows.specs.declared.Stop.the-variants as stops
-use Rattle.rows.specs.Row.{Row, RowPromise}
+use Rattle.rows.specs.Row.{Row, Fitting, RowPromise}
 
 -- What was known of a part of a start line is unchanged
 abbrev pub SamePiece : KnownPiece → KnownPiece → Type 0
@@ -48,16 +50,23 @@ pub record SameStatus (k l : StatusLine) : Type 0 where
 abbrev pub NoLine : Unit {0} → Unit {0} → Type 0
 NoLine k l = Unit {0}
 
--- An answer never changes when more bytes arrive: what a call told on s, and what it told (with primes) on s and more bytes, over the
--- same slots. Same is SameRequest, SameStatus or NoLine.
-pub record HeadStays {K : Type 0} (Same : K → K → Type 0) (end end′ : Passed) (line line′ : K) (count count′ : ℕ) (new new′ : List ℕ) : Type 0 where
+-- An answer never changes when more bytes arrive: what a call told on s, and what it told (with primes) on s and more bytes, over as many
+-- slots, which hold anything, such as what the first call left in them. Same is SameRequest, SameStatus or NoLine.
+pub record HeadStays {K : Type 0} (Same : K → K → Type 0) (end end′ : Passed) (line line′ : K) (count count′ : ℕ) (old′ new new′ : List ℕ) : Type 0 where
   -- complete stays complete with the same end and fields, and an error the same error, with the same fields, count and slots
-  pub decided : (end ≡ More → ⊥) → (end′ ≡ end) × (line′ ≡ line) × (count′ ≡ count) × (new′ ≡ new)
+  pub decided : (end ≡ More → ⊥) → (end′ ≡ end) × (line′ ≡ line) × (count′ ≡ count) × (new′ ≡ take (count * 4) new ++ drop (count * 4) old′)
   -- what was known before the end was reached is unchanged
   pub known : Same line line′
   pub headers : (count ≤ count′) × (take (count * 4) new′ ≡ take (count * 4) new)
 
--- the same of a chunk size line: only an incomplete one may become something else
+-- More slots change no answer but TooManyHeaders: what a call told, and what it told (with primes) on the same bytes over at least as many
+-- slots. Where there were too few, the start line is the same, and the headers that were given are the first of those given now.
+pub record MoreSlots {K : Type 0} (end end′ : Passed) (line line′ : K) (count count′ : ℕ) (old′ new new′ : List ℕ) : Type 0 where
+  pub enough : (end ≡ Bad TooManyHeaders → ⊥) → (end′ ≡ end) × (count′ ≡ count) × (new′ ≡ take (count * 4) new ++ drop (count * 4) old′)
+  pub known : line′ ≡ line
+  pub given : (count ≤ count′) × (take (count * 4) new′ ≡ take (count * 4) new)
+
+-- As bytes arrive, only an incomplete chunk size line may become something else
 abbrev pub ChunkStays : ChunkSize → ChunkSize → Type 0
 ChunkStays r r′ = (r ≡ sizes.Incomplete → ⊥) → r′ ≡ r
 
@@ -73,21 +82,24 @@ OneChunk = (v s w t : List ℕ) (m n : ℕ) → v ++ s ≡ w ++ t → chunk-line
 abbrev pub OneRow : {L : Type 0} → (List ℕ → L → List Field → Type 0) → Type 0
 OneRow {L} Head = (v w : List ℕ) (hs gs : List (L × List Field)) (es ds : List ℕ) → Row Head 0 v hs es → Row Head 0 w gs ds → v ≡ w → (hs ≡ gs) × (es ≡ ds)
 
--- each head has at most n fields
-abbrev pub Fitting : {L : Type 0} → ℕ → List (L × List Field) → Type 0
-Fitting n [] = Unit {0}
-Fitting n (h ∷ hs) = (length (h .1) ≤ n) × Fitting n hs
-
 -- and the call that reads a row of heads, whose fields fit the slots and whose ends have room, reads all of them and no others: it
 -- stops at the end of the input, the heads are those, in order, and their ends are in their places
 abbrev pub ReadsRow : {L K : Type 0} → (List ℕ → L → List Field → Type 0) → (ℕ → List ℕ → Heads K) → Type 0
-ReadsRow {L} Head read = (n : ℕ) (s old : List ℕ) (r : RowRead) (new : List ℕ) (P : RowPromise Head read n s old r new) (hs : List (L × List Field)) (es : List ℕ) → Row Head 0 s hs es → Fitting n hs → length hs ≤ length old →
+ReadsRow {L} Head read = (n : ℕ) (s slots old : List ℕ) (r : RowRead) (slots′ new : List ℕ) (P : RowPromise Head read n s slots old r slots′ new) (hs : List (L × List Field)) (es : List ℕ) → Row Head 0 s hs es → Fitting n hs → length hs ≤ length old →
     (r .stop ≡ stops.End) × (r .end ≡ length s) × (P .heads ≡ hs) × (r .count ≡ length hs) × (new ≡ es ++ drop (length es) old)
 
--- whatever bytes t follow the row, its heads are the first that are read
+-- whatever bytes t follow the row, its heads are the first that are read, and their ends the first in their places
 abbrev pub ReadsFirst : {L K : Type 0} → (List ℕ → L → List Field → Type 0) → (ℕ → List ℕ → Heads K) → Type 0
-ReadsFirst {L} Head read = (n : ℕ) (v t old : List ℕ) (r : RowRead) (new : List ℕ) (P : RowPromise Head read n (v ++ t) old r new) (hs : List (L × List Field)) (es : List ℕ) → Row Head 0 v hs es → Fitting n hs → length hs ≤ length old →
-    (more : List (L × List Field)) × (ends : List ℕ) × (P .heads ≡ hs ++ more) × (P .ends ≡ es ++ ends)
+ReadsFirst {L} Head read = (n : ℕ) (v t slots old : List ℕ) (r : RowRead) (slots′ new : List ℕ) (P : RowPromise Head read n (v ++ t) slots old r slots′ new) (hs : List (L × List Field)) (es : List ℕ) → Row Head 0 v hs es → Fitting n hs → length hs ≤ length old →
+    (length hs ≤ r .count) × (take (length hs) new ≡ es) × (take (length hs) (P .heads) ≡ hs)
+
+-- What was read of a row stays read when more bytes arrive: what a call told on s, and what it told (with primes) on s and more bytes,
+-- over as many slots and room for at least as many ends
+pub record RowStays (r r′ : RowRead) (new new′ : List ℕ) : Type 0 where
+  -- the ends that were in their places are the first of those that are now
+  pub ends : (r .count ≤ r′ .count) × (take (r .count) new′ ≡ take (r .count) new)
+  -- an error is the same error, behind the same heads
+  pub wrong : (e : Error) → r .stop ≡ stops.Bad e → (r′ .stop ≡ stops.Bad e) × (r′ .end ≡ r .end) × (r′ .count ≡ r .count)
 
 -- The plain form: told is what a call tells of a start line, and plain the form of a line and fields. A call on s was complete, the
 -- form of what it read was written, n bytes, and a call (with primes) was made on z, which begins with these.

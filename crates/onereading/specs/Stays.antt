@@ -1,10 +1,10 @@
 -- An answer never changes when more bytes arrive: what each call told on s it tells on s and anything behind it.
 -- Assumes nothing.
-use Prim.Native.Nat.{ℕ, _+_, _*_}
+use Prim.Native.Nat.{ℕ, _*_, _≤_}
 use native.Mathlib.Omega.{arith}
 use mathlib.Core.Path.{_≡_, refl, sym, ap, subst, _∙_}
 use mathlib.Core.List.{List, [], _++_}
-use lib.ListN.{length, take, length-append}
+use lib.ListN.{length, take, drop, length-append}
 use Rattle.reader.specs.Machine.{Step, runAt}
 use Rattle.reader.specs.Seq.{first}
 use Rattle.reader.specs.Answer.{Answer, got, short, bad, answer, lapwise}
@@ -37,13 +37,15 @@ use Rattle.agreement.specs.Calls.{alone, alone-told}
 use Rattle.onereading.specs.Statements.{SameRequest, SameStatus, NoLine, HeadStays, ChunkStays}
 use Rattle.onereading.specs.Later.{Later, same, waited, later}
 use Rattle.onereading.specs.Lines.{request-line-grows, status-line-grows}
-use Rattle.onereading.specs.Blocks.{Starts, block-grows, slots-same}
+use Rattle.onereading.specs.Blocks.{Starts, block-grows, slots-same, slots-again}
 
 module _ {K : Type 0} where
-  told-same : {a : Heads K} {end end′ : Passed} {line line′ : K} {count count′ : ℕ} {old new new′ : List ℕ} → Told a end line count old new → Told a end′ line′ count′ old new′ → (end′ ≡ end) × (line′ ≡ line) × (count′ ≡ count) × (new′ ≡ new)
-  told-same {a} {end} {end′} {line} {line′} T U =
+  pub told-same : {a : Heads K} {end end′ : Passed} {line line′ : K} {count count′ : ℕ} {old old′ new new′ : List ℕ} → Told a end line count old new → Told a end′ line′ count′ old′ new′ → (end′ ≡ end) × (line′ ≡ line) × (count′ ≡ count) × (new′ ≡ take (count * 4) new ++ drop (count * 4) old′)
+  told-same {a} {end} {end′} {line} {line′} {old = old} {old′ = old′} {new = new} {new′ = new′} T U =
       let u = tells end end′ line line′ (given a) (T .answer ∙ sym (U .answer)) in
-      (u .0, u .1, U .count-is ∙ sym (T .count-is), U .slots ∙ sym (T .slots))
+      let k = length (given a) in
+      let same : new′ ≡ take (k * 4) new ++ drop (k * 4) old′ = U .slots ∙ slots-again (given a) old old′ ∙ ap (λ y. take (k * 4) y ++ drop (k * 4) old′) (sym (T .slots)) in
+      (u .0, u .1, U .count-is ∙ sym (T .count-is), same ∙ ap (λ y. take (y * 4) new ++ drop (y * 4) old′) (sym (T .count-is)))
     where
       tells : (end end′ : Passed) (line line′ : K) (hs : List Header) → _≡_ {A = Heads K} (tell end (line, hs)) (tell end′ (line′, hs)) → (end′ ≡ end) × (line′ ≡ line)
       tells (At q) (At q′) line line′ hs e = let u : _≡_ {A = Known K} (line, hs) (line′, hs) = cc in (cc, sym (ap (λ y. y .0) u))
@@ -62,18 +64,22 @@ module _ {K : Type 0} where
   told-more More k u e = refl
   told-more (Bad x) k u e = let n : _≡_ {A = ℕ} 0 1 = cc in absurd (omega arith)
 
-  decides : {a b : Heads K} {end end′ : Passed} {line line′ : K} {count count′ : ℕ} {old new new′ : List ℕ} → Later a b → Told a end line count old new → Told b end′ line′ count′ old new′ → (end ≡ More → ⊥) → (end′ ≡ end) × (line′ ≡ line) × (count′ ≡ count) × (new′ ≡ new)
+  decides : {a b : Heads K} {end end′ : Passed} {line line′ : K} {count count′ : ℕ} {old old′ new new′ : List ℕ} → Later a b → Told a end line count old new → Told b end′ line′ count′ old′ new′ → (end ≡ More → ⊥) → (end′ ≡ end) × (line′ ≡ line) × (count′ ≡ count) × (new′ ≡ take (count * 4) new ++ drop (count * 4) old′)
   decides same T U n = told-same T U
   decides {end = end} {line = line} (waited {u = u}) T U n = absurd (n (told-more end (line, u .1) u (T .answer)))
 
-  stays : (Same : K → K → Type 0) {a b : Heads K} {end end′ : Passed} {line line′ : K} {count count′ : ℕ} {old new new′ : List ℕ} → Later a b → Same (knownOf a .0) (knownOf b .0) → Starts (given a) (given b) → Told a end line count old new → Told b end′ line′ count′ old new′ → HeadStays Same end end′ line line′ count count′ new new′
-  stays Same {a} {b} {line = line} {line′ = line′} {count = count} {old = old} {new = new} {new′ = new′} L k s T U = record {
+  -- the headers that were given are the first of those given now
+  pub first-headers : {a b : Heads K} {end end′ : Passed} {line line′ : K} {count count′ : ℕ} {old old′ new new′ : List ℕ} → Starts (given a) (given b) → Told a end line count old new → Told b end′ line′ count′ old′ new′ → (count ≤ count′) × (take (count * 4) new′ ≡ take (count * 4) new)
+  first-headers {a} {b} {old = old} {old′ = old′} {new = new} {new′ = new′} s T U = (
+    omega (arith, T .count-is, U .count-is, ap length (s .whole), length-append (given a) (s .more)),
+    ap (λ y. take (y * 4) new′) (T .count-is) ∙ ap (take (length (given a) * 4)) (U .slots) ∙ slots-same (given a) old old′ (given b) s ∙ sym (ap (take (length (given a) * 4)) (T .slots)) ∙ sym (ap (λ y. take (y * 4) new) (T .count-is)),
+  )
+
+  stays : (Same : K → K → Type 0) {a b : Heads K} {end end′ : Passed} {line line′ : K} {count count′ : ℕ} {old old′ new new′ : List ℕ} → Later a b → Same (knownOf a .0) (knownOf b .0) → Starts (given a) (given b) → Told a end line count old new → Told b end′ line′ count′ old′ new′ → HeadStays Same end end′ line line′ count count′ old′ new new′
+  stays Same {a} {line = line} {line′ = line′} L k s T U = record {
     decided = decides L T U;
     known = subst (λ y. Same y line′) (told-line T) (subst (Same (knownOf a .0)) (told-line U) k);
-    headers = (
-      omega (arith, T .count-is, U .count-is, ap length (s .whole), length-append (given a) (s .more)),
-      ap (λ y. take (y * 4) new′) (T .count-is) ∙ ap (take (length (given a) * 4)) (U .slots) ∙ slots-same (given a) (given b) old s ∙ sym (ap (take (length (given a) * 4)) (T .slots)) ∙ sym (ap (λ y. take (y * 4) new) (T .count-is)),
-    );
+    headers = first-headers s T U;
   }
 
 -- a head by its line and its block
@@ -90,18 +96,18 @@ module _ (r : Rules) (n : ℕ) {K S : Type 0} (m : Step S K (Error × K)) (known
       (subst (λ y. Starts (given (headed (answer known (runAt m s xs 0)) (λ k q. over k (block r n [] xs q)))) (given y)) (sym (head-parts r n m known s (xs ++ ys)))
       (fields-grow xs ys (later known m s xs ys 0)))
 
-  pub head-stays : (Same : K → K → Type 0) (xs ys : List ℕ) → Same (knownOf (answer known (runAt m s xs 0))) (knownOf (answer known (runAt m s (xs ++ ys) 0))) → {end end′ : Passed} {line line′ : K} {count count′ : ℕ} {old new new′ : List ℕ} → Told (heads.head r n m known s xs) end line count old new → Told (heads.head r n m known s (xs ++ ys)) end′ line′ count′ old new′ → HeadStays Same end end′ line line′ count count′ new new′
+  pub head-stays : (Same : K → K → Type 0) (xs ys : List ℕ) → Same (knownOf (answer known (runAt m s xs 0))) (knownOf (answer known (runAt m s (xs ++ ys) 0))) → {end end′ : Passed} {line line′ : K} {count count′ : ℕ} {old old′ new new′ : List ℕ} → Told (heads.head r n m known s xs) end line count old new → Told (heads.head r n m known s (xs ++ ys)) end′ line′ count′ old′ new′ → HeadStays Same end end′ line line′ count count′ old′ new new′
   head-stays Same xs ys k T U =
       stays Same (later (headKnown r n m known s) (headStep r n m known s) (first s) xs ys 0)
       (subst (λ y. Same y (knownOf (heads.head r n m known s (xs ++ ys)) .0)) (sym (head-line r n m known s xs)) (subst (Same (knownOf (answer known (runAt m s xs 0)))) (sym (head-line r n m known s (xs ++ ys))) k))
       (head-fields xs ys) T U
 
-module _ (n : ℕ) (s t : List ℕ) {old : List ℕ} {end end′ : Passed} {count count′ : ℕ} {new new′ : List ℕ} where
-  pub request-stays : {line line′ : RequestLine} → Told (request default n s) end line count old new → Told (request default n (s ++ t)) end′ line′ count′ old new′ → HeadStays SameRequest end end′ line line′ count count′ new new′
+module _ (n : ℕ) (s t : List ℕ) {old old′ : List ℕ} {end end′ : Passed} {count count′ : ℕ} {new new′ : List ℕ} where
+  pub request-stays : {line line′ : RequestLine} → Told (request default n s) end line count old new → Told (request default n (s ++ t)) end′ line′ count′ old′ new′ → HeadStays SameRequest end end′ line line′ count count′ old′ new new′
   unfolding request
   request-stays T U = head-stays default n (requests.requestLineStep default) requests.lineKnown (first start) SameRequest s t (request-line-grows default s t) T U
 
-  pub response-stays : {line line′ : StatusLine} → Told (response default n s) end line count old new → Told (response default n (s ++ t)) end′ line′ count′ old new′ → HeadStays SameStatus end end′ line line′ count count′ new new′
+  pub response-stays : {line line′ : StatusLine} → Told (response default n s) end line count old new → Told (response default n (s ++ t)) end′ line′ count′ old′ new′ → HeadStays SameStatus end end′ line line′ count count′ old′ new new′
   unfolding response
   response-stays T U = head-stays default n (statuses.statusLineStep default) statuses.lineKnown (first start) SameStatus s t (status-line-grows default s t) T U
 
@@ -110,7 +116,7 @@ alone-later : {a b : blocks.Blocks} → Later a b → Later (alone a) (alone b)
 alone-later same = same
 alone-later waited = waited
 
-pub headers-stays : (n : ℕ) (s t : List ℕ) {r r′ : Block} {old new new′ : List ℕ} → blocks.Told (block default n [] s 0) r old new → blocks.Told (block default n [] (s ++ t) 0) r′ old new′ → HeadStays NoLine (r .end) (r′ .end) tt tt (r .count) (r′ .count) new new′
+pub headers-stays : (n : ℕ) (s t : List ℕ) {r r′ : Block} {old old′ new new′ : List ℕ} → blocks.Told (block default n [] s 0) r old new → blocks.Told (block default n [] (s ++ t) 0) r′ old′ new′ → HeadStays NoLine (r .end) (r′ .end) tt tt (r .count) (r′ .count) old′ new new′
 headers-stays n s t T U =
     stays NoLine (alone-later (later (lapwise (λ hs _. hs)) (blockStep default n) ([], fresh) s t 0)) tt
     (subst (λ y. Starts y (given (alone (block default n [] (s ++ t) 0)))) (sym (given-over tt (block default n [] s 0))) (subst (Starts (blocks.given (block default n [] s 0))) (sym (given-over tt (block default n [] (s ++ t) 0))) (block-grows default n s t [] 0)))

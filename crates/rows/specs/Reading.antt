@@ -11,19 +11,21 @@ use Rattle.grammar.specs.Fields.{Field}
 use Rattle.grammar.specs.Message.{header-block, request-head, response-head}
 use Rattle.grammar.specs.Message as grammar
 use Rattle.parts.specs.declared.Error.{Error}
+use Rattle.parts.specs.declared.Error.the-variants.{TooManyHeaders}
 use Rattle.parts.specs.declared.Passed.{Passed}
 use Rattle.parts.specs.declared.Passed.the-variants.{At, More, Bad}
 use Rattle.requestline.specs.declared.RequestLine.{RequestLine}
 use Rattle.statusline.specs.declared.StatusLine.{StatusLine}
 use Rattle.agreement.specs.Block.{ends-long}
 use Rattle.agreement.specs.Known.{RequestSays, StatusSays, RequestInside, StatusInside}
+use Rattle.agreement.specs.Kept.{fields-counted}
 use Rattle.agreement.specs.Promises.{HeadPromise}
 use Rattle.heads.specs.Head.{Heads, Told, given}
 use Rattle.heads.specs.Calls.{request, response}
 use Rattle.rows.specs.declared.RowRead.{RowRead}
 use Rattle.rows.specs.declared.Stop.{Stop}
 use Rattle.rows.specs.declared.Stop.the-variants as stops
-use Rattle.rows.specs.Row.{Row, none, more, Ends, Stopped, all-read, full, unfinished, wrong, RowPromise}
+use Rattle.rows.specs.Row.{Row, none, more, Fitting, Ends, used, Used, untouched, behind, Stopped, all-read, full, unfinished, wrong, RowPromise}
 
 -- no head is empty
 block-long : {r : Rules} {w : List ℕ} {fs : List Field} → header-block r w fs → 1 ≤ length w
@@ -35,16 +37,16 @@ head-long (grammar.head.message {e = e} {w = w} {c = c} {b = b} x l d k) = omega
 
 -- what a call comes to on the bytes z, with n slots
 pub data Next {L K : Type 0} (Head : List ℕ → L → List Field → Type 0) (read : ℕ → List ℕ → Heads K) (n : ℕ) (z : List ℕ) : Passed → Type 0 where
-  found : {w : List ℕ} (t : List ℕ) {l : L} {fs : List Field} {q : ℕ} → z ≡ w ++ t → q ≡ length w → 1 ≤ length w → Head w l fs → Next Head read n z (At q)
+  found : {w : List ℕ} (t : List ℕ) {l : L} {fs : List Field} {q : ℕ} → z ≡ w ++ t → q ≡ length w → 1 ≤ length w → Head w l fs → length fs ≤ n → Next Head read n z (At q)
   waits : Ends (read n z) More → ((w t : List ℕ) (l : L) (fs : List Field) → z ≡ w ++ t → Head w l fs → ⊥) → Next Head read n z More
-  fails : {e : Error} → Ends (read n z) (Bad e) → ((u w t : List ℕ) (l : L) (fs : List Field) → z ++ u ≡ w ++ t → Head w l fs → length fs ≤ n → ⊥) → Next Head read n z (Bad e)
+  fails : {e : Error} → Ends (read n z) (Bad e) → ((u w t : List ℕ) (l : L) (fs : List Field) → z ++ u ≡ w ++ t → Head w l fs → length fs ≤ n → ⊥) → ((e ≡ TooManyHeaders → ⊥) → (u w t : List ℕ) (l : L) (fs : List Field) → z ++ u ≡ w ++ t → Head w l fs → ⊥) → Next Head read n z (Bad e)
 
 module _ {L K : Type 0} {Head : List ℕ → L → List Field → Type 0} {read : ℕ → List ℕ → Heads K} {Says : List ℕ → K → L → Type 0} {In : List ℕ → K → Type 0} (long : (w : List ℕ) (l : L) (fs : List Field) → Head w l fs → 1 ≤ length w)
     {z old : List ℕ} {line : K} {count : ℕ} {new : List ℕ} where
   next : (end : Passed) → Told (read (length old / 4) z) end line count old new → HeadPromise Head Says In z old end line count new → Next Head read (length old / 4) z end
-  next (At q) T P = let H = P .complete q refl in found (H .rest) (H .whole) (H .end) (long (H .bytes) (H .said) _ (H .head)) (H .head)
+  next (At q) T P = let H = P .complete q refl in found (H .rest) (H .whole) (H .end) (long (H .bytes) (H .said) _ (H .head)) (H .head) (omega (arith, fields-counted z count new, P .within .0))
   next More T P = waits ((line, given (read (length old / 4) z)), T .answer) (P .incomplete refl)
-  next (Bad e) T P = fails ((line, given (read (length old / 4) z)), T .answer) (P .error e refl)
+  next (Bad e) T P = fails ((line, given (read (length old / 4) z)), T .answer) (P .error e refl) (P .error-at-all e refl)
 
 -- all that stands behind a position
 rest-of : (s : List ℕ) (at : ℕ) → take (length s - at) (drop at s) ≡ drop at s
@@ -54,8 +56,14 @@ module _ (s : List ℕ) (at : ℕ) {old : List ℕ} {end : Passed} {count : ℕ}
   pub next-request : {line : RequestLine} → Told (request default (length old / 4) (take (length s - at) (drop at s))) end line count old new → HeadPromise (request-head default) RequestSays RequestInside (take (length s - at) (drop at s)) old end line count new → Next (request-head default) (request default) (length old / 4) (drop at s) end
   next-request T P = subst (λ z. Next (request-head default) (request default) (length old / 4) z end) (rest-of s at) (next {read = request default} (λ w l fs. head-long) end T P)
 
+  pub used-request : {line : RequestLine} → Told (request default (length old / 4) (take (length s - at) (drop at s))) end line count old new → new ≡ used (request default) (length old / 4) (drop at s) old
+  used-request T = T .slots ∙ ap (λ z. used (request default) (length old / 4) z old) (rest-of s at)
+
   pub next-response : {line : StatusLine} → Told (response default (length old / 4) (take (length s - at) (drop at s))) end line count old new → HeadPromise (response-head default) StatusSays StatusInside (take (length s - at) (drop at s)) old end line count new → Next (response-head default) (response default) (length old / 4) (drop at s) end
   next-response T P = subst (λ z. Next (response-head default) (response default) (length old / 4) z end) (rest-of s at) (next {read = response default} (λ w l fs. head-long) end T P)
+
+  pub used-response : {line : StatusLine} → Told (response default (length old / 4) (take (length s - at) (drop at s))) end line count old new → new ≡ used (response default) (length old / 4) (drop at s) old
+  used-response T = T .slots ∙ ap (λ z. used (response default) (length old / 4) z old) (rest-of s at)
 
 -- one head more behind a row
 row-more : {L : Type 0} {Head : List ℕ → L → List Field → Type 0} {at : ℕ} {v : List ℕ} {hs : List (L × List Field)} {es : List ℕ} → Row Head at v hs es → {w : List ℕ} {l : L} {fs : List Field} → Head w l fs → Row Head at (v ++ w) (hs ++ ((l, fs) ∷ [])) (es ++ ((at + length (v ++ w)) ∷ []))
@@ -65,29 +73,37 @@ row-more {Head = Head} {at = at} (more {w = x} {v = v} {l = k} {fs = gs} {rest =
     subst (λ y. Row Head at y ((k, gs) ∷ (rest ++ ((l, fs) ∷ []))) ((at + length x) ∷ (ends ++ ((at + length (x ++ v ++ w)) ∷ [])))) (sym (append-assoc x v w))
     (subst (λ y. Row Head at (x ++ (v ++ w)) ((k, gs) ∷ (rest ++ ((l, fs) ∷ []))) ((at + length x) ∷ (ends ++ (y ∷ [])))) e (more g (row-more r h)))
 
--- the bytes before at are a row of heads, and their ends are in their places
-pub record Reading {L : Type 0} (Head : List ℕ → L → List Field → Type 0) (s old new : List ℕ) (at count : ℕ) : Type 0 where
+fitting-more : {L : Type 0} (n : ℕ) (hs : List (L × List Field)) (h : L × List Field) → Fitting n hs → length (h .1) ≤ n → Fitting n (hs ++ (h ∷ []))
+fitting-more n [] h f l = (l, tt)
+fitting-more n (g ∷ hs) h f l = (f .0, fitting-more n hs h (f .1) l)
+
+-- the bytes before at are a row of heads that fit n slots, their ends are in their places, and the slots are as these heads left them
+pub record Reading {L K : Type 0} (Head : List ℕ → L → List Field → Type 0) (read : ℕ → List ℕ → Heads K) (n : ℕ) (s slots old left new : List ℕ) (at count : ℕ) : Type 0 where
   pub bytes : List ℕ
   pub rest : List ℕ
   pub heads : List (L × List Field)
   pub ends : List ℕ
   pub whole : s ≡ bytes ++ rest
   pub row : Row Head 0 bytes heads ends
+  pub fits : Fitting n heads
   pub place : at ≡ length bytes
   pub counted : count ≡ length ends
   pub kept : new ≡ ends ++ drop (length ends) old
   pub size : length new ≡ length old
   pub room : count ≤ length old
+  pub uses : Used read n s slots ends at left
+  pub many : length left ≡ length slots
+  pub slots-are : n ≡ length slots / 4
 
-pub reading-none : {L : Type 0} {Head : List ℕ → L → List Field → Type 0} {s old : List ℕ} → Reading Head s old old 0 0
-reading-none {s = s} = record { bytes = []; rest = s; heads = []; ends = []; whole = refl; row = none; place = refl; counted = refl; kept = refl; size = refl; room = omega arith }
+pub reading-none : {L K : Type 0} {Head : List ℕ → L → List Field → Type 0} {read : ℕ → List ℕ → Heads K} {s slots old : List ℕ} → Reading Head read (length slots / 4) s slots old slots old 0 0
+reading-none {s = s} = record { bytes = []; rest = s; heads = []; ends = []; whole = refl; row = none; fits = tt; place = refl; counted = refl; kept = refl; size = refl; room = omega arith; uses = untouched; many = refl; slots-are = refl }
 
-module _ {L : Type 0} {Head : List ℕ → L → List Field → Type 0} {s old new : List ℕ} {at count : ℕ} (c : Reading Head s old new at count) where
-  behind : drop at s ≡ c .rest
-  behind = ap (drop at) (c .whole) ∙ drop-at (c .bytes) (c .rest) at (sym (c .place))
+module _ {L K : Type 0} {Head : List ℕ → L → List Field → Type 0} {read : ℕ → List ℕ → Heads K} {n : ℕ} {s slots old left new : List ℕ} {at count : ℕ} (c : Reading Head read n s slots old left new at count) where
+  behind-at : drop at s ≡ c .rest
+  behind-at = ap (drop at) (c .whole) ∙ drop-at (c .bytes) (c .rest) at (sym (c .place))
 
-  left : length s ≡ at + length (c .rest)
-  left = omega (arith, ap length (c .whole), length-append (c .bytes) (c .rest), c .place)
+  split-at : length s ≡ at + length (c .rest)
+  split-at = omega (arith, ap length (c .whole), length-append (c .bytes) (c .rest), c .place)
 
   -- one end more in its place
   stored : (v : ℕ) → count < length new → set new count v ≡ c .ends ++ (v ∷ []) ++ drop (length (c .ends ++ (v ∷ []))) old
@@ -99,76 +115,97 @@ module _ {L : Type 0} {Head : List ℕ → L → List Field → Type 0} {s old n
       ∙ sym (append-assoc (c .ends) (v ∷ []) (drop (suc (length (c .ends))) old))
       ∙ ap (λ y. c .ends ++ (v ∷ []) ++ drop y old) (sym n)
 
-  module _ {K : Type 0} {read : ℕ → List ℕ → Heads K} {n : ℕ} {p : Passed} (x : Next Head read n (drop at s) p) where
-    pub reading-more : {q : ℕ} → p ≡ At q → count < length new → Reading Head s old (set new count (at + q)) (at + q) (count + 1)
-    reading-more {q} e h = by (subst (Next Head read n (drop at s)) e x)
+  -- the next call has as many slots
+  next-here : {p y : Passed} → Next Head read (length left / 4) (drop at s) p → p ≡ y → Next Head read n (c .rest) y
+  next-here {y = y} x e = subst (λ v. Next Head read n v y) behind-at (subst (λ v. Next Head read v (drop at s) y) (ap (λ k. k / 4) (c .many) ∙ sym (c .slots-are)) (subst (Next Head read (length left / 4) (drop at s)) e x))
+
+  used-here : {left′ : List ℕ} → left′ ≡ used read (length left / 4) (drop at s) left → left′ ≡ used read n (drop at s) left
+  used-here e = e ∙ ap (λ k. used read k (drop at s) left) (ap (λ k. k / 4) (c .many) ∙ sym (c .slots-are))
+
+  tried : {left′ : List ℕ} → left′ ≡ used read (length left / 4) (drop at s) left → left′ ≡ used read n (c .rest) left
+  tried u = used-here u ∙ ap (λ z. used read n z left) behind-at
+
+  module _ {p : Passed} (x : Next Head read (length left / 4) (drop at s) p) where
+    -- the reading goes on
+    pub reading-less : {q : ℕ} → p ≡ At q → at < length s → length s - (at + q) < length s - at
+    reading-less {q} e h = by (next-here x e)
       where
-        by : Next Head read n (drop at s) (At q) → Reading Head s old (set new count (at + q)) (at + q) (count + 1)
-        by (found {w = w} t {l = l} {fs = fs} z i k d) =
-            let m : at + q ≡ length (c .bytes ++ w) = omega (arith, i, c .place, length-append (c .bytes) w) in
-            let u : 0 + length (c .bytes ++ w) ≡ at + q = omega (arith, m) in
-            record {
-              bytes = c .bytes ++ w;
-              rest = t;
-              heads = c .heads ++ ((l, fs) ∷ []);
-              ends = c .ends ++ ((at + q) ∷ []);
-              whole = c .whole ∙ ap (λ y. c .bytes ++ y) (sym behind ∙ z) ∙ sym (append-assoc (c .bytes) w t);
-              row = subst (λ y. Row Head 0 (c .bytes ++ w) (c .heads ++ ((l, fs) ∷ [])) (c .ends ++ (y ∷ []))) u (row-more (c .row) d);
-              place = m;
-              counted = omega (arith, c .counted, length-append (c .ends) ((at + q) ∷ []));
-              kept = stored (at + q) h;
-              size = length-set new count (at + q) ∙ c .size;
-              room = omega (arith, h, c .size);
-            }
+        by : Next Head read n (c .rest) (At q) → length s - (at + q) < length s - at
+        by (found t z i k d f) = omega (arith, i, k, h)
 
-    -- the reading goes on, and within the input
-    pub reading-less : {q : ℕ} → p ≡ At q → (1 ≤ q) × (at + q ≤ length s)
-    reading-less {q} e = by (subst (Next Head read n (drop at s)) e x)
+    -- and within the input
+    pub reading-within : {q : ℕ} → p ≡ At q → at + q ≤ length s
+    reading-within {q} e = by (next-here x e)
       where
-        by : Next Head read n (drop at s) (At q) → (1 ≤ q) × (at + q ≤ length s)
-        by (found {w = w} t z i k d) = (omega (arith, i, k), omega (arith, i, left, ap length (sym behind ∙ z), length-append w t))
+        by : Next Head read n (c .rest) (At q) → at + q ≤ length s
+        by (found {w = w} t z i k d f) = omega (arith, i, split-at, ap length z, length-append w t)
 
-  -- the same with as many slots, of what is left
-  next-left : {K : Type 0} {read : ℕ → List ℕ → Heads K} {m n : ℕ} → m ≡ n → {p y : Passed} → Next Head read (m / 4) (drop at s) p → p ≡ y → Next Head read (n / 4) (c .rest) y
-  next-left {read = read} {m = m} {n = n} k {y = y} x e = subst (λ v. Next Head read (n / 4) v y) behind (subst (λ v. Next Head read (v / 4) (drop at s) y) k (subst (Next Head read (m / 4) (drop at s)) e x))
+    module _ {left′ : List ℕ} (u : left′ ≡ used read (length left / 4) (drop at s) left) (size : length left′ ≡ length left) where
+      pub reading-more : {q : ℕ} → p ≡ At q → count < length new → Reading Head read n s slots old left′ (set new count (at + q)) (at + q) (count + 1)
+      reading-more {q} e h = by (next-here x e)
+        where
+          by : Next Head read n (c .rest) (At q) → Reading Head read n s slots old left′ (set new count (at + q)) (at + q) (count + 1)
+          by (found {w = w} t {l = l} {fs = fs} z i k d f) =
+              let m : at + q ≡ length (c .bytes ++ w) = omega (arith, i, c .place, length-append (c .bytes) w) in
+              let v : 0 + length (c .bytes ++ w) ≡ at + q = omega (arith, m) in
+              record {
+                bytes = c .bytes ++ w;
+                rest = t;
+                heads = c .heads ++ ((l, fs) ∷ []);
+                ends = c .ends ++ ((at + q) ∷ []);
+                whole = c .whole ∙ ap (λ y. c .bytes ++ y) z ∙ sym (append-assoc (c .bytes) w t);
+                row = subst (λ y. Row Head 0 (c .bytes ++ w) (c .heads ++ ((l, fs) ∷ [])) (c .ends ++ (y ∷ []))) v (row-more (c .row) d);
+                fits = fitting-more n (c .heads) (l, fs) (c .fits) f;
+                place = m;
+                counted = omega (arith, c .counted, length-append (c .ends) ((at + q) ∷ []));
+                kept = stored (at + q) h;
+                size = length-set new count (at + q) ∙ c .size;
+                room = omega (arith, h, c .size);
+                uses = subst (Used read n s slots (c .ends ++ ((at + q) ∷ [])) (at + q)) (sym (used-here u)) (behind (at + q) (c .uses));
+                many = size ∙ c .many;
+                slots-are = c .slots-are;
+              }
 
-  module _ {K : Type 0} {read : ℕ → List ℕ → Heads K} {r : RowRead} (i : r .count ≡ count) (j : r .end ≡ at) where
-    ended : {n : ℕ} {x : Stop} → r .stop ≡ x → Stopped Head read n (c .rest) (r .count) (length old) x → RowPromise Head read n s old r new
-    ended {n} e x = record {
+  module _ {r : RowRead} (i : r .count ≡ count) (j : r .end ≡ at) where
+    ended : {x : Stop} {slots′ : List ℕ} → r .stop ≡ x → Stopped Head read n (c .rest) (r .count) (length old) left x slots′ → RowPromise Head read n s slots old r slots′ new
+    ended {slots′ = slots′} e x = record {
       bytes = c .bytes;
       rest = c .rest;
       heads = c .heads;
       ends = c .ends;
       whole = c .whole;
       row = c .row;
+      fits = c .fits;
       end = j ∙ c .place;
       count = i ∙ c .counted;
+      room = omega (arith, i, c .room);
       kept = c .kept;
-      stopped = subst (Stopped Head read n (c .rest) (r .count) (length old)) (sym e) x;
+      left = left;
+      uses = subst (λ y. Used read n s slots (c .ends) y left) (sym j) (c .uses);
+      stopped = subst (λ y. Stopped Head read n (c .rest) (r .count) (length old) left y slots′) (sym e) x;
     }
 
-    pub reading-end : {n : ℕ} → length s ≤ at → r .stop ≡ stops.End → RowPromise Head read n s old r new
-    reading-end h e = ended e (all-read (empty (c .rest) (omega (arith, h, left))))
+    pub reading-end : length s ≤ at → r .stop ≡ stops.End → RowPromise Head read n s slots old r left new
+    reading-end h e = ended e (all-read (empty (c .rest) (omega (arith, h, split-at))))
       where
         empty : (l : List ℕ) → length l ≤ 0 → l ≡ []
         empty [] h = refl
         empty (y ∷ ys) h = absurd (omega (arith, h))
 
-    pub reading-full : {n : ℕ} → at < length s → length new ≤ count → r .stop ≡ stops.Full → RowPromise Head read n s old r new
-    reading-full h k e = ended e (full (omega (arith, i, k, c .size, c .room)) (omega (arith, h, left)))
+    pub reading-full : at < length s → length new ≤ count → r .stop ≡ stops.Full → RowPromise Head read n s slots old r left new
+    reading-full h k e = ended e (full (omega (arith, i, k, c .size, c .room)) (omega (arith, h, split-at)))
 
-    -- there are as many slots as before
-    module _ {m n : ℕ} (k : m ≡ n) {p : Passed} (x : Next Head read (m / 4) (drop at s) p) (h : at < length s) where
-      pub reading-unfinished : p ≡ More → r .stop ≡ stops.More → RowPromise Head read (n / 4) s old r new
-      reading-unfinished e f = ended f (by (next-left k x e))
+    module _ {p : Passed} (x : Next Head read (length left / 4) (drop at s) p) {left′ : List ℕ} (u : left′ ≡ used read (length left / 4) (drop at s) left) (h : at < length s) (k : count < length new) where
+      pub reading-unfinished : p ≡ More → r .stop ≡ stops.More → RowPromise Head read n s slots old r left′ new
+      reading-unfinished e f = ended f (subst (Stopped Head read n (c .rest) (r .count) (length old) left stops.More) (sym (tried u)) (by (next-here x e)))
         where
-          by : Next Head read (n / 4) (c .rest) More → Stopped Head read (n / 4) (c .rest) (r .count) (length old) stops.More
-          by (waits a y) = unfinished a y (omega (arith, h, left))
+          by : Next Head read n (c .rest) More → Stopped Head read n (c .rest) (r .count) (length old) left stops.More (used read n (c .rest) left)
+          by (waits a y) = unfinished a y (omega (arith, h, split-at)) (omega (arith, i, k, c .size))
 
-      pub reading-wrong : {z : Error} → p ≡ Bad z → r .stop ≡ stops.Bad z → RowPromise Head read (n / 4) s old r new
-      reading-wrong {z} e f = ended f (by (next-left k x e))
+      pub reading-wrong : {z : Error} → p ≡ Bad z → r .stop ≡ stops.Bad z → RowPromise Head read n s slots old r left′ new
+      reading-wrong {z} e f = ended f (subst (Stopped Head read n (c .rest) (r .count) (length old) left (stops.Bad z)) (sym (tried u)) (by (next-here x e)))
         where
-          by : Next Head read (n / 4) (c .rest) (Bad z) → Stopped Head read (n / 4) (c .rest) (r .count) (length old) (stops.Bad z)
-          by (fails a y) = wrong a y (omega (arith, h, left))
+          by : Next Head read n (c .rest) (Bad z) → Stopped Head read n (c .rest) (r .count) (length old) left (stops.Bad z) (used read n (c .rest) left)
+          by (fails a y b) = wrong a y b (omega (arith, h, split-at)) (omega (arith, i, k, c .size))
 
-pub ruleset readings = (reading-none, reading-more, reading-end, reading-full, reading-unfinished, reading-wrong)
+pub ruleset readings = (reading-none, reading-less, reading-within, reading-more, reading-end, reading-full, reading-unfinished, reading-wrong)

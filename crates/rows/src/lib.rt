@@ -1,10 +1,11 @@
 // Heads one behind another: each is read from the end of the one before it. They demand nothing of the caller.
+ghost use mathlib.Core.Path.{_≡_};
 ghost use Prim.Native.Nat.{_/_, _≤_};
 ghost use lib.ListN.{length, drop};
 ghost use Rattle.rules.specs.Rules.{default};
 ghost use Rattle.grammar.specs.Message.{request-head, response-head};
 ghost use Rattle.heads.specs.Calls.{request as requestOf, response as responseOf};
-ghost use Rattle.rows.specs.Row.{RowPromise};
+ghost use Rattle.rows.specs.Row.{used, RowPromise};
 ghost use Rattle.rows.specs.Reading.{Next};
 use parts::Error;
 use parts::Passed;
@@ -29,6 +30,8 @@ pub struct RowRead {
 fn next_request(s: &[u8], at: usize, slots: &mut [usize]) -> Passed
     requires { ⌜ at ≤ length (now s) ⌝ }
     ensures { λ r. ⌜ Next (request-head default) (requestOf default) (length (now (slots .entry)) / 4) (drop at (now (s .entry))) r ⌝ }
+    ensures { λ r. ⌜ now (slots .exit) ≡ used (requestOf default) (length (now (slots .entry)) / 4) (drop at (now (s .entry))) (now (slots .entry)) ⌝ }
+    ensures { λ r. ⌜ length (now (slots .exit)) ≡ length (now (slots .entry)) ⌝ }
 {
     let head = calls::request(&s[at..], slots);
     head.end
@@ -37,6 +40,8 @@ fn next_request(s: &[u8], at: usize, slots: &mut [usize]) -> Passed
 fn next_response(s: &[u8], at: usize, slots: &mut [usize]) -> Passed
     requires { ⌜ at ≤ length (now s) ⌝ }
     ensures { λ r. ⌜ Next (response-head default) (responseOf default) (length (now (slots .entry)) / 4) (drop at (now (s .entry))) r ⌝ }
+    ensures { λ r. ⌜ now (slots .exit) ≡ used (responseOf default) (length (now (slots .entry)) / 4) (drop at (now (s .entry))) (now (slots .entry)) ⌝ }
+    ensures { λ r. ⌜ length (now (slots .exit)) ≡ length (now (slots .entry)) ⌝ }
 {
     let head = calls::response(&s[at..], slots);
     head.end
@@ -44,7 +49,7 @@ fn next_response(s: &[u8], at: usize, slots: &mut [usize]) -> Passed
 
 // Puts the position behind each head into `ends`. The slots are used for each head in turn, and are left as the last call left them.
 pub fn requests(s: &[u8], slots: &mut [usize], ends: &mut [usize]) -> RowRead
-    ensures { λ r. ⌜ RowPromise (request-head default) (requestOf default) (length (now (slots .entry)) / 4) (now (s .entry)) (now (ends .entry)) r (now (ends .exit)) ⌝ }
+    ensures { λ r. ⌜ RowPromise (request-head default) (requestOf default) (length (now (slots .entry)) / 4) (now (s .entry)) (now (slots .entry)) (now (ends .entry)) r (now (slots .exit)) (now (ends .exit)) ⌝ }
 {
     let mut at = 0;
     let mut count = 0;
@@ -87,7 +92,7 @@ pub fn requests(s: &[u8], slots: &mut [usize], ends: &mut [usize]) -> RowRead
 }
 
 pub fn responses(s: &[u8], slots: &mut [usize], ends: &mut [usize]) -> RowRead
-    ensures { λ r. ⌜ RowPromise (response-head default) (responseOf default) (length (now (slots .entry)) / 4) (now (s .entry)) (now (ends .entry)) r (now (ends .exit)) ⌝ }
+    ensures { λ r. ⌜ RowPromise (response-head default) (responseOf default) (length (now (slots .entry)) / 4) (now (s .entry)) (now (slots .entry)) (now (ends .entry)) r (now (slots .exit)) (now (ends .exit)) ⌝ }
 {
     let mut at = 0;
     let mut count = 0;

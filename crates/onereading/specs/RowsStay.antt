@@ -1,0 +1,105 @@
+-- What was read of a row of heads stays read when more bytes arrive.
+-- Assumes nothing.
+use Prim.Native.Nat.{ℕ, _+_, _≤_, _<_}
+use native.Mathlib.Omega.{arith}
+use mathlib.Core.Path.{_≡_, refl, sym, ap, subst, _∙_}
+use mathlib.Core.List.{List, _∷_, _++_, append-assoc}
+use lib.ListN.{length, take, drop, length-append}
+use lib.Seq.{take-at}
+use Rattle.reader.specs.Answer.{bad}
+use Rattle.rules.specs.Rules.{default}
+use Rattle.grammar.specs.Fields.{Field}
+use Rattle.grammar.specs.Message.{request-head, response-head}
+use Rattle.parts.specs.declared.Error.{Error}
+use Rattle.parts.specs.declared.Passed.the-variants.{Bad}
+use Rattle.heads.specs.Head.{Heads, Known}
+use Rattle.heads.specs.Calls.{request, response}
+use Rattle.agreement.specs.Calls.{request-exactly, response-exactly}
+use Rattle.rows.specs.declared.RowRead.{RowRead}
+use Rattle.rows.specs.declared.Stop.{Stop}
+use Rattle.rows.specs.declared.Stop.the-variants as stops
+use Rattle.rows.specs.Row.{Row, none, more, Fitting, Ends, Stopped, all-read, full, unfinished, wrong, RowPromise}
+use Rattle.rows.specs.Reading.{head-long}
+use Rattle.onereading.specs.Statements.{OneHead, RowStays}
+use Rattle.onereading.specs.Derivation.{same-rest, one-request, one-response}
+use Rattle.onereading.specs.Rows.{Beside, beyond, short, beside, ends-count, fitting-behind, row-first}
+
+-- where the reading stopped with an error, no head that fits begins, whatever bytes u follow
+record Wrong {L K : Type 0} (Head : List ℕ → L → List Field → Type 0) (read : ℕ → List ℕ → Heads K) (n : ℕ) (rest : List ℕ) (count room : ℕ) (e : Error) : Type 0 where
+  ends : Ends (read n rest) (Bad e)
+  none-fits : (u w t : List ℕ) (l : L) (fs : List Field) → rest ++ u ≡ w ++ t → Head w l fs → length fs ≤ n → ⊥
+  long : 1 ≤ length rest
+  room-left : count < room
+
+module _ {L K : Type 0} {Head : List ℕ → L → List Field → Type 0} {read : ℕ → List ℕ → Heads K} {n : ℕ} {rest : List ℕ} {count room : ℕ} {left : List ℕ} where
+  stopped-wrong : {slots : List ℕ} {x : Stop} {e : Error} → Stopped Head read n rest count room left x slots → x ≡ stops.Bad e → Wrong Head read n rest count room e
+  stopped-wrong {e = e} (wrong {e = f} a y z l m) h = let g : f ≡ e = cc in record { ends = subst (λ k. Ends (read n rest) (Bad k)) g a; none-fits = y; long = l; room-left = m }
+  stopped-wrong (all-read r) h = let z : _≡_ {A = ℕ} 0 1 = cc in absurd (omega arith)
+  stopped-wrong (full r l) h = let z : _≡_ {A = ℕ} 0 1 = cc in absurd (omega arith)
+  stopped-wrong (unfinished a y l m) h = let z : _≡_ {A = ℕ} 0 1 = cc in absurd (omega arith)
+
+  -- a reading that has that error stops with it
+  stops-wrong : {slots : List ℕ} {x : Stop} {k : Known K} {e : Error} → Stopped Head read n rest count room left x slots → read n rest ≡ bad (e, k) → 1 ≤ length rest → count < room → x ≡ stops.Bad e
+  stops-wrong (all-read r) h l m = absurd (omega (arith, l, ap length r))
+  stops-wrong (full r i) h l m = absurd (omega (arith, r, m))
+  stops-wrong (unfinished a y i j) h l m = let c = a .1 ∙ h in let z : _≡_ {A = ℕ} 0 1 = cc in absurd (omega arith)
+  stops-wrong {k = k} {e = e} (wrong {e = f} a y z i j) h l m = let u : _≡_ {A = Error × Known K} (f, a .0) (e, k) = by (a .1 ∙ h) in ap (λ y. stops.Bad (y .0)) u
+    where
+      by : {x y : Error × Known K} → _≡_ {A = Heads K} (bad x) (bad y) → x ≡ y
+      by q = cc
+
+module _ {L K : Type 0} {Head : List ℕ → L → List Field → Type 0} {read : ℕ → List ℕ → Heads K} (long : (w : List ℕ) (l : L) (fs : List Field) → Head w l fs → 1 ≤ length w) (one : OneHead Head)
+    (stays : (n : ℕ) (s u : List ℕ) (x : Error × Known K) → read n s ≡ bad x → read n (s ++ u) ≡ bad x) where
+  -- as many heads of the same bytes take as many bytes
+  level : {at : ℕ} {b : List ℕ} {gs : List (L × List Field)} {ds : List ℕ} → Row Head at b gs ds → (rest : List ℕ) {v : List ℕ} {hs : List (L × List Field)} {es : List ℕ} → Row Head at v hs es → (t : List ℕ) → b ++ rest ≡ v ++ t → length gs ≡ length hs → b ≡ v
+  level none rest none t e h = refl
+  level none rest (more k r) t e h = absurd (omega (arith, h))
+  level (more k r) rest none t e h = absurd (omega (arith, h))
+  level {at} (more {w = w} {v = v} {l = l} {fs = fs} k r) rest (more {w = w′} {v = v′} {l = l′} {fs = fs′} {rest = hs} {ends = es} k′ r′) t e h =
+      let f : w ++ (v ++ rest) ≡ w′ ++ (v′ ++ t) = sym (append-assoc w v rest) ∙ e ∙ append-assoc w′ v′ t in
+      let u = one w (v ++ rest) w′ (v′ ++ t) l l′ fs fs′ f k k′ in
+      let m : at + length w′ ≡ at + length w = ap (λ y. at + length y) (sym (u .0)) in
+      let i = level r rest (subst (λ y. Row Head y v′ hs es) m r′) t (same-rest w (v ++ rest) w′ (v′ ++ t) f (u .0)) (omega (arith, h)) in
+      ap (λ y. y ++ v) (u .0) ∙ ap (λ y. w′ ++ y) i
+
+  row-stays : (n : ℕ) (s t : List ℕ) {slots slots₂ old old₂ left left₂ new new₂ : List ℕ} {r r₂ : RowRead} → RowPromise Head read n s slots old r left new → RowPromise Head read n (s ++ t) slots₂ old₂ r₂ left₂ new₂ → length old ≤ length old₂ → RowStays r r₂ new new₂
+  row-stays n s t {slots₂ = slots₂} {old = old} {old₂ = old₂} {left₂ = left₂} {new = new} {new₂ = new₂} {r = r} {r₂ = r₂} P Q room = record { ends = (count-grows, ends-same); wrong = wrong-same }
+    where
+      whole : s ++ t ≡ P .bytes ++ (P .rest ++ t)
+      whole = ap (λ y. y ++ t) (P .whole) ∙ append-assoc (P .bytes) (P .rest) t
+
+      counted : length (P .heads) ≡ r .count
+      counted = omega (arith, ends-count long one (P .row), P .count)
+
+      first : (length (P .heads) ≤ r₂ .count) × (take (length (P .heads)) new₂ ≡ P .ends)
+      first =
+          let f = row-first long one read n (P .bytes) (P .rest ++ t) slots₂ old₂ r₂ left₂ new₂ (subst (λ y. RowPromise Head read n y slots₂ old₂ r₂ left₂ new₂) whole Q) (P .heads) (P .ends) (P .row) (P .fits) (omega (arith, counted, P .room, room)) in
+          (f .0, f .1)
+
+      count-grows : r .count ≤ r₂ .count
+      count-grows = omega (arith, counted, first .0)
+
+      ends-same : take (r .count) new₂ ≡ take (r .count) new
+      ends-same = ap (λ y. take y new₂) (sym counted) ∙ first .1 ∙ sym (ap (take (r .count)) (P .kept) ∙ take-at (P .ends) (drop (length (P .ends)) old) (r .count) (sym (P .count)))
+
+      wrong-same : (e : Error) → r .stop ≡ stops.Bad e → (r₂ .stop ≡ stops.Bad e) × (r₂ .end ≡ r .end) × (r₂ .count ≡ r .count)
+      wrong-same e h = by (beside long one (P .row) (P .rest ++ t) (Q .row) (Q .rest) (sym whole ∙ Q .whole))
+        where
+          W : Wrong Head read n (P .rest) (r .count) (length old) e
+          W = stopped-wrong (P .stopped) h
+
+          by : Beside Head (P .rest ++ t) (P .heads) (Q .heads) (P .ends) (Q .ends) → (r₂ .stop ≡ stops.Bad e) × (r₂ .end ≡ r .end) × (r₂ .count ≡ r .count)
+          by (short w v l fs ks d z a) = absurd (W .none-fits t w v l fs z d (fitting-behind long one n (P .heads) ((l, fs) ∷ ks) (subst (Fitting n) a (Q .fits)) .0))
+          by (beyond ks ds a b) =
+              let c : r₂ .count ≡ r .count = omega (arith, count-grows, Q .count, P .count, ap length b, length-append (Q .ends) ds) in
+              let m : length (P .heads) ≡ length (Q .heads) = omega (arith, c, counted, ends-count long one (Q .row), Q .count) in
+              let i : P .bytes ≡ Q .bytes = level (P .row) (P .rest ++ t) (Q .row) (Q .rest) (sym whole ∙ Q .whole) m in
+              let j : P .rest ++ t ≡ Q .rest = same-rest (P .bytes) (P .rest ++ t) (Q .bytes) (Q .rest) (sym whole ∙ Q .whole) i in
+              let x : read n (Q .rest) ≡ bad (e, W .ends .0) = ap (read n) (sym j) ∙ stays n (P .rest) t (e, W .ends .0) (sym (W .ends .1)) in
+              (stops-wrong (Q .stopped) x (omega (arith, W .long, ap length j, length-append (P .rest) t)) (omega (arith, c, W .room-left, room)), Q .end ∙ ap length (sym i) ∙ sym (P .end), c)
+
+pub requests-stay : (n : ℕ) (s t : List ℕ) {slots slots₂ old old₂ left left₂ new new₂ : List ℕ} {r r₂ : RowRead} → RowPromise (request-head default) (request default) n s slots old r left new → RowPromise (request-head default) (request default) n (s ++ t) slots₂ old₂ r₂ left₂ new₂ → length old ≤ length old₂ → RowStays r r₂ new new₂
+requests-stay = row-stays (λ w l fs. head-long) one-request (λ n. request-exactly n .stays)
+
+pub responses-stay : (n : ℕ) (s t : List ℕ) {slots slots₂ old old₂ left left₂ new new₂ : List ℕ} {r r₂ : RowRead} → RowPromise (response-head default) (response default) n s slots old r left new → RowPromise (response-head default) (response default) n (s ++ t) slots₂ old₂ r₂ left₂ new₂ → length old ≤ length old₂ → RowStays r r₂ new new₂
+responses-stay = row-stays (λ w l fs. head-long) one-response (λ n. response-exactly n .stays)
