@@ -15,7 +15,7 @@ use Rattle.rules.specs.Rules.{Rules}
 use Rattle.fields.specs.declared.Header.{Header}
 use Rattle.fields.specs.Line.{Kind, lineStep}
 use Rattle.blocks.specs.Block.{taken, lapStep, blockStep, block-fresh}
-use Rattle.grammar.specs.Message.{line-end, crlf, lf}
+use Rattle.grammar.specs.Lengths.{ends-long}
 use Rattle.agreement.specs.Line.{Lined, exact-line}
 
 -- a line with the headers hs before it and n slots
@@ -24,10 +24,6 @@ Lapped r n hs = Passes (taken n hs) (Lined r)
 
 abbrev pub Blocked : Rules → ℕ → Relation (List Header)
 Blocked r n = Laps (Lapped r n) []
-
-pub ends-long : {r : Rules} {w : List ℕ} → line-end r w → 1 ≤ length w
-ends-long crlf = omega arith
-ends-long (lf h) = omega arith
 
 pub line-long : (r : Rules) (p : ℕ) (w : List ℕ) (k : Kind) (rest : List ℕ) → Lined r p w k rest → 1 ≤ length w
 line-long r p w k rest (one b bs e h g) = ends-long (g .holds)

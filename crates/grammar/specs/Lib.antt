@@ -2,3 +2,4 @@ pub mod Rows
 pub mod Fields
 pub mod Message
 pub mod Chunked
+pub mod Lengths

@@ -1,11 +1,11 @@
 -- What was read can be written; a call on what was written is complete at its end and gives the same fields back; and written again
 -- these are the same bytes.
 -- Assumes nothing.
-use Prim.Native.Nat.{ℕ, _/_, _≤_, _<_}
+use Prim.Native.Nat.{ℕ, _*_, _/_, _≤_}
 use native.Mathlib.Omega.{arith}
 use mathlib.Core.Path.{_≡_, refl, sym, ap, subst, _∙_}
 use mathlib.Core.List.{List, _++_}
-use lib.ListN.{length, take, drop}
+use lib.ListN.{length, take, drop, length-append}
 use lib.Seq.{take-at}
 use Rattle.rules.specs.Rules.{Rules, strict, default}
 use Rattle.grammar.specs.Rows.{Many}
@@ -28,12 +28,12 @@ use Rattle.agreement.specs.Kept.{fields-counted}
 use Rattle.agreement.specs.Promises.{HeadPromise, block-alone, says-nothing, lies-nowhere}
 use Rattle.plain.specs.Plain.{plain-code, plain-request, plain-response, plain-fields}
 use Rattle.plain.specs.Derived.{plain-block, plain-request-derived, plain-request-strict, plain-response-derived, plain-response-strict}
+use Rattle.plain.specs.Short.{request-short, response-short, block-short}
 use Rattle.places.specs.Lies.{bytesOf, numberOf, one-point, requestOf, statusOf, Complete, Lies, AtMost, RequestLies, ResponseLies, BlockLies}
 use Rattle.writer.specs.declared.Plain.{Plain}
 use Rattle.writer.specs.declared.Plain.the-variants.{Written}
-use Rattle.output.specs.Put.{greatest}
-use Rattle.writer.specs.Promise.{request-form, response-form, block-form, PlainPromise, was-written, writes}
-use Rattle.onereading.specs.Statements.{ReadBack, WrittenAgain}
+use Rattle.writer.specs.Promise.{request-form, response-form, block-form, PlainPromise, was-written, writes, asks}
+use Rattle.onereading.specs.Statements.{CanBeWritten, ReadBack, WrittenAgain}
 use Rattle.onereading.specs.Derivation.{request-one, response-one}
 
 -- a kind of head: how a call tells its line, what is told, and the plain form of it
@@ -52,31 +52,38 @@ module _ {L K : Type 0} {Head : List ℕ → L → List Field → Type 0} {Says 
         let H = P .complete q e in
         subst (λ y. Head (plain y (fieldsIn s count new)) y (fieldsIn s count new)) (sym said) (derived (H .bytes) (H .said) (fieldsIn s count new) (H .head))
 
+    -- with room its plain form is written, and without it is asked for, since it is at most twice as long as what was read
+    can-write : ((w : List ℕ) (l : L) (fs : List Field) → Head w l fs → length (plain l fs) ≤ length w * 2) → {Writable : Type 0} {out : List ℕ} {r : Plain} {out′ : List ℕ} → PlainPromise s Writable form out r out′ → Writable → CanBeWritten form out r
+    can-write short W v =
+        let H = P .complete q e in
+        let l : length form ≤ length (H .bytes) * 2 = subst (λ y. length (plain y (fieldsIn s count new)) ≤ length (H .bytes) * 2) (sym said) (short (H .bytes) (H .said) (fieldsIn s count new) (H .head)) in
+        (writes W v, asks W v (omega (arith, l, ap length (H .whole), length-append (H .bytes) (H .rest))))
+
     -- its plain form is written over out, and what begins with the bytes written is read by a call with slots enough
-    module _ {Writable : Type 0} {out : List ℕ} {r : Plain} {out′ : List ℕ} {n : ℕ} (W : PlainPromise Writable form out r out′) (w : r ≡ Written n) where
+    module _ {Writable : Type 0} {out : List ℕ} {r : Plain} {out′ : List ℕ} {n : ℕ} (W : PlainPromise s Writable form out r out′) (w : r ≡ Written n) where
       bytes-written : take n out′ ≡ form
       bytes-written = let x = was-written W w in ap (take n) (x .3) ∙ take-at form (drop n out) n (sym (x .1))
 
       module _ (t : List ℕ) {z old′ : List ℕ} {end′ : Passed} {line′ : K} {count′ : ℕ} {new′ : List ℕ} (b : z ≡ take n out′ ++ t) (Q : HeadPromise Head Says In z old′ end′ line′ count′ new′) (room : count ≤ length old′ / 4) where
-        back : ReadBack told plain s line count new n z end′ line′ count′ new′
+        back : ReadBack Says told s line count new n z end′ line′ count′ new′
         back =
             let x = was-written W w in
             let A = Q .accepts form t (told s line) (fieldsIn s count new) (b ∙ ap (λ y. y ++ t) bytes-written) form-derived (omega (arith, room, fields-counted s count new)) in
             let l = told-said z line′ form (told s line) (fieldsIn s count new) form-derived (A .1) in
             record {
               end = A .0 ∙ ap At (sym (x .1));
+              says-again = A .1;
               line-again = l;
               fields-again = A .2;
-              form-again = ap (λ y. plain y (fieldsIn z count′ new′)) l ∙ ap (plain (told s line)) (A .2);
             }
 
         -- and what was read back is written once more, with room enough
-        again : {Writable₂ : Type 0} {out₂ : List ℕ} {r₂ : Plain} {out₂′ : List ℕ} → PlainPromise Writable₂ (plain (told z line′) (fieldsIn z count′ new′)) out₂ r₂ out₂′ → Writable₂ → n ≤ length out₂ → length out₂ < greatest → WrittenAgain n out′ r₂ out₂′
-        again {out₂ = out₂} {out₂′ = out₂′} X v h g =
+        again : {Writable₂ : Type 0} {out₂ : List ℕ} {r₂ : Plain} {out₂′ : List ℕ} → PlainPromise z Writable₂ (plain (told z line′) (fieldsIn z count′ new′)) out₂ r₂ out₂′ → Writable₂ → n ≤ length out₂ → WrittenAgain n out′ r₂ out₂′
+        again {out₂ = out₂} {out₂′ = out₂′} X v h =
             let x = was-written W w in
-            let f = back .form-again in
+            let f : plain (told z line′) (fieldsIn z count′ new′) ≡ form = ap (λ y. plain y (fieldsIn z count′ new′)) (back .line-again) ∙ ap (plain (told s line)) (back .fields-again) in
             let m : length (plain (told z line′) (fieldsIn z count′ new′)) ≡ n = ap length f ∙ sym (x .1) in
-            let e = writes X v (omega (arith, m, h)) g ∙ ap Written m in
+            let e = writes X v (omega (arith, m, h)) ∙ ap Written m in
             let y = was-written X e in
             (e, ap (take n) (y .3) ∙ take-at (plain (told z line′) (fieldsIn z count′ new′)) (drop n out₂) n m ∙ f ∙ sym bytes-written)
 
@@ -126,6 +133,9 @@ module _ {s old : List ℕ} {head : RequestHead} {new : List ℕ} (P : RequestPr
         headers = record { room = omega (arith, P .within .0, P .within .1); inside = P .inside .1 };
       }
 
+  pub request-written : {out : List ℕ} {r : Plain} {out′ : List ℕ} → PlainPromise s (RequestLies s head new) (request-form s head new) out r out′ → CanBeWritten (request-form s head new) out r
+  request-written W = can-write requestOf plain-request request-told (λ w l fs. plain-request-derived refl) P e (λ w l fs. request-short) W request-writable
+
   -- what is written is a head under default with the same fields, and under strict if the target is strict
   pub request-plain : request-head default (request-form s head new) (requestOf s (head .line)) (fieldsIn s (head .count) new)
   request-plain = form-derived requestOf plain-request request-told (λ w l fs. plain-request-derived refl) P e
@@ -133,14 +143,14 @@ module _ {s old : List ℕ} {head : RequestHead} {new : List ℕ} (P : RequestPr
   pub request-plain-strict : request-target strict (requestOf s (head .line) .target) → request-head strict (request-form s head new) (requestOf s (head .line)) (fieldsIn s (head .count) new)
   request-plain-strict t = plain-request-strict request-plain t
 
-module _ {s old : List ℕ} {head : RequestHead} {new : List ℕ} (P : RequestPromise s old head new) {q : ℕ} (e : head .end ≡ At q) {Writable : Type 0} {out : List ℕ} {r : Plain} {out′ : List ℕ} {n : ℕ} (W : PlainPromise Writable (request-form s head new) out r out′) (w : r ≡ Written n) (t : List ℕ) {z old′ : List ℕ} {head′ : RequestHead} {new′ : List ℕ} (b : z ≡ take n out′ ++ t) (Q : RequestPromise z old′ head′ new′) (room : head .count ≤ length old′ / 4) where
+module _ {s old : List ℕ} {head : RequestHead} {new : List ℕ} (P : RequestPromise s old head new) {q : ℕ} (e : head .end ≡ At q) {Writable : Type 0} {out : List ℕ} {r : Plain} {out′ : List ℕ} {n : ℕ} (W : PlainPromise s Writable (request-form s head new) out r out′) (w : r ≡ Written n) (t : List ℕ) {z old′ : List ℕ} {head′ : RequestHead} {new′ : List ℕ} (b : z ≡ take n out′ ++ t) (Q : RequestPromise z old′ head′ new′) (room : head .count ≤ length old′ / 4) where
   -- a call on the bytes written, with anything behind them, is complete at their end and gives the same fields back
-  pub request-back : ReadBack requestOf plain-request s (head .line) (head .count) new n z (head′ .end) (head′ .line) (head′ .count) new′
+  pub request-back : ReadBack RequestSays requestOf s (head .line) (head .count) new n z (head′ .end) (head′ .line) (head′ .count) new′
   request-back = back requestOf plain-request request-told (λ w l fs. plain-request-derived refl) P e W w t b Q room
 
   -- what was read back is written as the same bytes
-  pub request-again : {out₂ : List ℕ} {r₂ : Plain} {out₂′ : List ℕ} → PlainPromise (RequestLies z head′ new′) (request-form z head′ new′) out₂ r₂ out₂′ → n ≤ length out₂ → length out₂ < greatest → WrittenAgain n out′ r₂ out₂′
-  request-again X h g = again requestOf plain-request request-told (λ w l fs. plain-request-derived refl) P e W w t b Q room X (request-writable Q (request-back .end)) h g
+  pub request-again : {out₂ : List ℕ} {r₂ : Plain} {out₂′ : List ℕ} → PlainPromise z (RequestLies z head′ new′) (request-form z head′ new′) out₂ r₂ out₂′ → n ≤ length out₂ → WrittenAgain n out′ r₂ out₂′
+  request-again X h = again requestOf plain-request request-told (λ w l fs. plain-request-derived refl) P e W w t b Q room X (request-writable Q (request-back .end)) h
 
 -- responses
 abbrev pub ResponsePromise : List ℕ → List ℕ → ResponseHead → List ℕ → Type 0
@@ -166,6 +176,9 @@ module _ {s old : List ℕ} {head : ResponseHead} {new : List ℕ} (P : Response
         headers = record { room = omega (arith, P .within .0, P .within .1); inside = P .inside .1 };
       }
 
+  pub response-written : {out : List ℕ} {r : Plain} {out′ : List ℕ} → PlainPromise s (ResponseLies s head new) (response-form s head new) out r out′ → CanBeWritten (response-form s head new) out r
+  response-written W = can-write statusOf plain-response status-told (λ w l fs. plain-response-derived refl refl) P e (λ w l fs. response-short) W response-writable
+
   -- what is written is a head under default with the same fields, and under strict if the code is strict
   pub response-plain : response-head default (response-form s head new) (statusOf s (head .line)) (fieldsIn s (head .count) new)
   response-plain = form-derived statusOf plain-response status-told (λ w l fs. plain-response-derived refl refl) P e
@@ -173,14 +186,14 @@ module _ {s old : List ℕ} {head : ResponseHead} {new : List ℕ} (P : Response
   pub response-plain-strict : status-code strict (plain-code (statusOf s (head .line) .code)) (statusOf s (head .line) .code) → response-head strict (response-form s head new) (statusOf s (head .line)) (fieldsIn s (head .count) new)
   response-plain-strict c = plain-response-strict response-plain c
 
-module _ {s old : List ℕ} {head : ResponseHead} {new : List ℕ} (P : ResponsePromise s old head new) {q : ℕ} (e : head .end ≡ At q) {Writable : Type 0} {out : List ℕ} {r : Plain} {out′ : List ℕ} {n : ℕ} (W : PlainPromise Writable (response-form s head new) out r out′) (w : r ≡ Written n) (t : List ℕ) {z old′ : List ℕ} {head′ : ResponseHead} {new′ : List ℕ} (b : z ≡ take n out′ ++ t) (Q : ResponsePromise z old′ head′ new′) (room : head .count ≤ length old′ / 4) where
+module _ {s old : List ℕ} {head : ResponseHead} {new : List ℕ} (P : ResponsePromise s old head new) {q : ℕ} (e : head .end ≡ At q) {Writable : Type 0} {out : List ℕ} {r : Plain} {out′ : List ℕ} {n : ℕ} (W : PlainPromise s Writable (response-form s head new) out r out′) (w : r ≡ Written n) (t : List ℕ) {z old′ : List ℕ} {head′ : ResponseHead} {new′ : List ℕ} (b : z ≡ take n out′ ++ t) (Q : ResponsePromise z old′ head′ new′) (room : head .count ≤ length old′ / 4) where
   -- a call on the bytes written, with anything behind them, is complete at their end and gives the same fields back
-  pub response-back : ReadBack statusOf plain-response s (head .line) (head .count) new n z (head′ .end) (head′ .line) (head′ .count) new′
+  pub response-back : ReadBack StatusSays statusOf s (head .line) (head .count) new n z (head′ .end) (head′ .line) (head′ .count) new′
   response-back = back statusOf plain-response status-told (λ w l fs. plain-response-derived refl refl) P e W w t b Q room
 
   -- what was read back is written as the same bytes
-  pub response-again : {out₂ : List ℕ} {r₂ : Plain} {out₂′ : List ℕ} → PlainPromise (ResponseLies z head′ new′) (response-form z head′ new′) out₂ r₂ out₂′ → n ≤ length out₂ → length out₂ < greatest → WrittenAgain n out′ r₂ out₂′
-  response-again X h g = again statusOf plain-response status-told (λ w l fs. plain-response-derived refl refl) P e W w t b Q room X (response-writable Q (response-back .end)) h g
+  pub response-again : {out₂ : List ℕ} {r₂ : Plain} {out₂′ : List ℕ} → PlainPromise z (ResponseLies z head′ new′) (response-form z head′ new′) out₂ r₂ out₂′ → n ≤ length out₂ → WrittenAgain n out′ r₂ out₂′
+  response-again X h = again statusOf plain-response status-told (λ w l fs. plain-response-derived refl refl) P e W w t b Q room X (response-writable Q (response-back .end)) h
 
 -- headers alone
 abbrev pub BlockPromise : List ℕ → List ℕ → Block → List ℕ → Type 0
@@ -191,15 +204,18 @@ module _ {s old : List ℕ} {block : Block} {new : List ℕ} (P : BlockPromise s
   pub headers-writable : BlockLies s block new
   headers-writable = record { complete = reached e; headers = record { room = omega (arith, P .within .0, P .within .1); inside = P .inside .1 } }
 
+  pub headers-written : {out : List ℕ} {r : Plain} {out′ : List ℕ} → PlainPromise s (BlockLies s block new) (block-form s block new) out r out′ → CanBeWritten (block-form s block new) out r
+  headers-written W = can-write (λ z k. k) (λ l fs. plain-fields fs) (λ z k w l fs h a. refl) (λ w l fs. plain-block) P e (λ w l fs. block-short) W headers-writable
+
   -- what is written is a block under strict with the same fields, and so under all rules
   pub headers-plain : (rules : Rules) → header-block rules (block-form s block new) (fieldsIn s (block .count) new)
   headers-plain rules = plain-block (P .complete q e .head)
 
-module _ {s old : List ℕ} {block : Block} {new : List ℕ} (P : BlockPromise s old block new) {q : ℕ} (e : block .end ≡ At q) {Writable : Type 0} {out : List ℕ} {r : Plain} {out′ : List ℕ} {n : ℕ} (W : PlainPromise Writable (block-form s block new) out r out′) (w : r ≡ Written n) (t : List ℕ) {z old′ : List ℕ} {block′ : Block} {new′ : List ℕ} (b : z ≡ take n out′ ++ t) (Q : BlockPromise z old′ block′ new′) (room : block .count ≤ length old′ / 4) where
+module _ {s old : List ℕ} {block : Block} {new : List ℕ} (P : BlockPromise s old block new) {q : ℕ} (e : block .end ≡ At q) {Writable : Type 0} {out : List ℕ} {r : Plain} {out′ : List ℕ} {n : ℕ} (W : PlainPromise s Writable (block-form s block new) out r out′) (w : r ≡ Written n) (t : List ℕ) {z old′ : List ℕ} {block′ : Block} {new′ : List ℕ} (b : z ≡ take n out′ ++ t) (Q : BlockPromise z old′ block′ new′) (room : block .count ≤ length old′ / 4) where
   -- a call on the bytes written, with anything behind them, is complete at their end and gives the same fields back
-  pub headers-back : ReadBack {L = Unit {0}} {K = Unit {0}} (λ z k. k) (λ l fs. plain-fields fs) s tt (block .count) new n z (block′ .end) tt (block′ .count) new′
+  pub headers-back : ReadBack {L = Unit {0}} {K = Unit {0}} says-nothing (λ z k. k) s tt (block .count) new n z (block′ .end) tt (block′ .count) new′
   headers-back = back (λ z k. k) (λ l fs. plain-fields fs) (λ z k w l fs h a. refl) (λ w l fs. plain-block) P e W w t b Q room
 
   -- what was read back is written as the same bytes
-  pub headers-again : {out₂ : List ℕ} {r₂ : Plain} {out₂′ : List ℕ} → PlainPromise (BlockLies z block′ new′) (block-form z block′ new′) out₂ r₂ out₂′ → n ≤ length out₂ → length out₂ < greatest → WrittenAgain n out′ r₂ out₂′
-  headers-again X h g = again (λ z k. k) (λ l fs. plain-fields fs) (λ z k w l fs h a. refl) (λ w l fs. plain-block) P e W w t b Q room X (headers-writable Q (headers-back .end)) h g
+  pub headers-again : {out₂ : List ℕ} {r₂ : Plain} {out₂′ : List ℕ} → PlainPromise z (BlockLies z block′ new′) (block-form z block′ new′) out₂ r₂ out₂′ → n ≤ length out₂ → WrittenAgain n out′ r₂ out₂′
+  headers-again X h = again (λ z k. k) (λ l fs. plain-fields fs) (λ z k w l fs h a. refl) (λ w l fs. plain-block) P e W w t b Q room X (headers-writable Q (headers-back .end)) h

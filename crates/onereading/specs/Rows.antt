@@ -9,12 +9,12 @@ use lib.Seq.{take-at}
 use Rattle.rules.specs.Rules.{default}
 use Rattle.grammar.specs.Fields.{Field}
 use Rattle.grammar.specs.Message.{request-head, response-head}
+use Rattle.grammar.specs.Lengths.{head-long}
 use Rattle.heads.specs.Head.{Heads}
 use Rattle.heads.specs.Calls.{request, response}
 use Rattle.rows.specs.declared.Stop.{Stop}
 use Rattle.rows.specs.declared.Stop.the-variants as stops
 use Rattle.rows.specs.Row.{Row, none, more, Fitting, Stopped, all-read, full, unfinished, wrong}
-use Rattle.rows.specs.Reading.{head-long}
 use Rattle.onereading.specs.Statements.{OneHead, OneRow, ReadsRow, ReadsFirst}
 use Rattle.onereading.specs.Derivation.{same-rest, one-request, one-response}
 

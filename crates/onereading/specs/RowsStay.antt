@@ -10,6 +10,7 @@ use Rattle.reader.specs.Answer.{bad}
 use Rattle.rules.specs.Rules.{default}
 use Rattle.grammar.specs.Fields.{Field}
 use Rattle.grammar.specs.Message.{request-head, response-head}
+use Rattle.grammar.specs.Lengths.{head-long}
 use Rattle.parts.specs.declared.Error.{Error}
 use Rattle.parts.specs.declared.Passed.the-variants.{Bad}
 use Rattle.heads.specs.Head.{Heads, Known}
@@ -19,7 +20,6 @@ use Rattle.rows.specs.declared.RowRead.{RowRead}
 use Rattle.rows.specs.declared.Stop.{Stop}
 use Rattle.rows.specs.declared.Stop.the-variants as stops
 use Rattle.rows.specs.Row.{Row, none, more, Fitting, Ends, Stopped, all-read, full, unfinished, wrong, RowPromise}
-use Rattle.rows.specs.Reading.{head-long}
 use Rattle.onereading.specs.Statements.{OneHead, RowStays}
 use Rattle.onereading.specs.Derivation.{same-rest, one-request, one-response}
 use Rattle.onereading.specs.Rows.{Beside, beyond, short, beside, ends-count, fitting-behind, row-first}

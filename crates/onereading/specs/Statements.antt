@@ -1,6 +1,6 @@
 -- One reading only: what is said of every kind of head, and nothing else. docs/PROVED.md names the theorem for each kind.
 -- Assumes nothing.
-use Prim.Native.Nat.{ℕ, _*_, _≤_}
+use Prim.Native.Nat.{ℕ, _*_, _≤_, _<_}
 use mathlib.Core.Path.{_≡_}
 use mathlib.Core.List.{List, _++_}
 use lib.ListN.{length, take, drop}
@@ -22,7 +22,7 @@ use Rattle.chunks.specs.declared.ChunkSize.{ChunkSize}
 use Rattle.chunks.specs.declared.ChunkSize.the-variants as sizes
 use Rattle.agreement.specs.Known.{fieldsIn}
 use Rattle.writer.specs.declared.Plain.{Plain}
-use Rattle.writer.specs.declared.Plain.the-variants.{Written}
+use Rattle.writer.specs.declared.Plain.the-variants.{Written, Needs}
 use Rattle.rows.specs.declared.RowRead.{RowRead}
 use Rattle.rows.specs.declared.Stop.the-variants as stops
 use Rattle.rows.specs.Row.{Row, Fitting, RowPromise}
@@ -101,16 +101,20 @@ pub record RowStays (r r′ : RowRead) (new new′ : List ℕ) : Type 0 where
   -- an error is the same error, behind the same heads
   pub wrong : (e : Error) → r .stop ≡ stops.Bad e → (r′ .stop ≡ stops.Bad e) × (r′ .end ≡ r .end) × (r′ .count ≡ r .count)
 
--- The plain form: told is what a call tells of a start line, and plain the form of a line and fields. A call on s was complete, the
--- form of what it read was written, n bytes, and a call (with primes) was made on z, which begins with these.
-pub record ReadBack {L K : Type 0} (told : List ℕ → K → L) (plain : L → List Field → List ℕ) (s : List ℕ) (line : K) (count : ℕ) (new : List ℕ) (n : ℕ) (z : List ℕ) (end′ : Passed) (line′ : K) (count′ : ℕ) (new′ : List ℕ) : Type 0 where
+-- The plain form. What a call read completely can be written: with room for its form it is, and without it the writer's answer r tells
+-- how much is needed
+abbrev pub CanBeWritten : List ℕ → List ℕ → Plain → Type 0
+CanBeWritten form out r = (length form ≤ length out → r ≡ Written (length form)) × (length out < length form → r ≡ Needs (length form))
+
+-- Says is how a call tells a start line, and told what it has told. A call on s was complete, the form of what it read was written, n
+-- bytes, and a call (with primes) was made on z, which begins with these.
+pub record ReadBack {L K : Type 0} (Says : List ℕ → K → L → Type 0) (told : List ℕ → K → L) (s : List ℕ) (line : K) (count : ℕ) (new : List ℕ) (n : ℕ) (z : List ℕ) (end′ : Passed) (line′ : K) (count′ : ℕ) (new′ : List ℕ) : Type 0 where
   -- the second call is complete where the writer stopped
   pub end : end′ ≡ At n
-  -- it gives the same fields back, byte for byte
+  -- it tells the same start line and gives the same fields back, byte for byte
+  pub says-again : Says z line′ (told s line)
   pub line-again : told z line′ ≡ told s line
   pub fields-again : fieldsIn z count′ new′ ≡ fieldsIn s count new
-  -- and so what it read has the same plain form
-  pub form-again : plain (told z line′) (fieldsIn z count′ new′) ≡ plain (told s line) (fieldsIn s count new)
 
 -- Plain of plain is plain: what was read back is written with the answer r into bytes that become again, and out had the first form
 abbrev pub WrittenAgain : ℕ → List ℕ → Plain → List ℕ → Type 0

@@ -13,7 +13,7 @@ greatest = 18446744073709551615
 
 -- the position behind n bytes, or the greatest where there are as many or more
 pub data Behind (at n : ℕ) : Type 0 where
-  is : at ≡ n → Behind at n
+  is : at ≡ n → n ≤ greatest → Behind at n
   beyond : at ≡ greatest → greatest ≤ n → Behind at n
 
 -- the bytes w stand at the start of what was old, if there is room for all of them, and at is the position behind them
@@ -23,27 +23,31 @@ pub record Put (w old new : List ℕ) (at : ℕ) : Type 0 where
   pub size : length new ≡ length old
 
 pub nothing-put : (old : List ℕ) → Put [] old old 0
-nothing-put old = record { behind = is refl; bytes = λ f. refl; size = refl }
+nothing-put old = record { behind = is refl (omega arith); bytes = λ f. refl; size = refl }
 
 -- a text is put behind whatever bytes have been put before it
 pub record Adds (text : List ℕ) (at : ℕ) (before : List ℕ) (end : ℕ) (after : List ℕ) : Type 0 where
   pub behind : (w old : List ℕ) → Put w old before at → Put (w ++ text) old after end
   pub size : length after ≡ length before
 
+-- a text for which there is no room is not put, nor any part of it
+abbrev pub WholeOrNot : List ℕ → ℕ → List ℕ → List ℕ → Type 0
+WholeOrNot text at before after = length before < at + length text → after ≡ before
+
 behind-add : {at n : ℕ} (k : ℕ) → Behind at n → at + k ≤ greatest → Behind (at + k) (n + k)
-behind-add k (is e) h = is (omega (arith, e))
+behind-add k (is e l) h = is (omega (arith, e)) (omega (arith, e, h))
 behind-add k (beyond e l) h = beyond (omega (arith, e, h)) (omega (arith, l))
 
 behind-past : {at n k : ℕ} → Behind at n → greatest - at < k → Behind greatest (n + k)
-behind-past (is e) h = beyond refl (omega (arith, e, h))
+behind-past (is e l) h = beyond refl (omega (arith, e, h))
 behind-past (beyond e l) h = beyond refl (omega (arith, l))
 
 behind-under : {at n : ℕ} → Behind at n → at ≤ n
-behind-under (is e) = omega (arith, e)
+behind-under (is e l) = omega (arith, e)
 behind-under (beyond e l) = omega (arith, e, l)
 
 pub behind-is : {at n : ℕ} → Behind at n → n ≤ greatest → at ≡ n
-behind-is (is e) h = e
+behind-is (is e l) h = e
 behind-is (beyond e l) h = omega (arith, e, l, h)
 
 module _ {text : List ℕ} {at : ℕ} {before : List ℕ} where

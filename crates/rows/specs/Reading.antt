@@ -6,17 +6,16 @@ use mathlib.Core.Path.{_≡_, refl, sym, ap, subst, _∙_}
 use mathlib.Core.List.{List, [], _∷_, _++_, append-assoc, append-nil}
 use lib.ListN.{length, take, drop, getD, set, length-append, length-drop, length-set}
 use lib.Seq.{take-all, drop-at, drop-cons, set-at}
-use Rattle.rules.specs.Rules.{Rules, default}
+use Rattle.rules.specs.Rules.{default}
 use Rattle.grammar.specs.Fields.{Field}
-use Rattle.grammar.specs.Message.{header-block, request-head, response-head}
-use Rattle.grammar.specs.Message as grammar
+use Rattle.grammar.specs.Message.{request-head, response-head}
+use Rattle.grammar.specs.Lengths.{head-long}
 use Rattle.parts.specs.declared.Error.{Error}
 use Rattle.parts.specs.declared.Error.the-variants.{TooManyHeaders}
 use Rattle.parts.specs.declared.Passed.{Passed}
 use Rattle.parts.specs.declared.Passed.the-variants.{At, More, Bad}
 use Rattle.requestline.specs.declared.RequestLine.{RequestLine}
 use Rattle.statusline.specs.declared.StatusLine.{StatusLine}
-use Rattle.agreement.specs.Block.{ends-long}
 use Rattle.agreement.specs.Known.{RequestSays, StatusSays, RequestInside, StatusInside}
 use Rattle.agreement.specs.Kept.{fields-counted}
 use Rattle.agreement.specs.Promises.{HeadPromise}
@@ -26,14 +25,6 @@ use Rattle.rows.specs.declared.RowRead.{RowRead}
 use Rattle.rows.specs.declared.Stop.{Stop}
 use Rattle.rows.specs.declared.Stop.the-variants as stops
 use Rattle.rows.specs.Row.{Row, none, more, Fitting, Ends, used, Used, untouched, behind, Stopped, all-read, full, unfinished, wrong, RowPromise}
-
--- no head is empty
-block-long : {r : Rules} {w : List ℕ} {fs : List Field} → header-block r w fs → 1 ≤ length w
-block-long (grammar.header-block.end e) = ends-long e
-block-long (grammar.header-block.field {w = w} {e = e} {b = b} f d k) = omega (arith, length-append (w ++ e) b, block-long k)
-
-pub head-long : {r : Rules} {L : Type 0} {A : List ℕ → L → Type 0} {w : List ℕ} {l : L} {fs : List Field} → grammar.head r A w l fs → 1 ≤ length w
-head-long (grammar.head.message {e = e} {w = w} {c = c} {b = b} x l d k) = omega (arith, length-append (e ++ w ++ c) b, block-long k)
 
 -- what a call comes to on the bytes z, with n slots
 pub data Next {L K : Type 0} (Head : List ℕ → L → List Field → Type 0) (read : ℕ → List ℕ → Heads K) (n : ℕ) (z : List ℕ) : Passed → Type 0 where

@@ -18,7 +18,7 @@ pub enum Plain {
 }
 
 pub fn plain_request(s: &[u8], head: RequestHead, slots: &[usize], out: &mut [u8]) -> Plain
-    ensures { λ r. ⌜ PlainPromise (RequestLies (now (s .entry)) head (now (slots .entry))) (request-form (now (s .entry)) head (now (slots .entry))) (now (out .entry)) r (now (out .exit)) ⌝ }
+    ensures { λ r. ⌜ PlainPromise (now (s .entry)) (RequestLies (now (s .entry)) head (now (slots .entry))) (request-form (now (s .entry)) head (now (slots .entry))) (now (out .entry)) r (now (out .exit)) ⌝ }
 {
     if !places::request(s, head, slots) {
         return Plain::Unwritable;
@@ -36,7 +36,7 @@ pub fn plain_request(s: &[u8], head: RequestHead, slots: &[usize], out: &mut [u8
 }
 
 pub fn plain_response(s: &[u8], head: ResponseHead, slots: &[usize], out: &mut [u8]) -> Plain
-    ensures { λ r. ⌜ PlainPromise (ResponseLies (now (s .entry)) head (now (slots .entry))) (response-form (now (s .entry)) head (now (slots .entry))) (now (out .entry)) r (now (out .exit)) ⌝ }
+    ensures { λ r. ⌜ PlainPromise (now (s .entry)) (ResponseLies (now (s .entry)) head (now (slots .entry))) (response-form (now (s .entry)) head (now (slots .entry))) (now (out .entry)) r (now (out .exit)) ⌝ }
 {
     if !places::response(s, head, slots) {
         return Plain::Unwritable;
@@ -53,7 +53,7 @@ pub fn plain_response(s: &[u8], head: ResponseHead, slots: &[usize], out: &mut [
 }
 
 pub fn plain_headers(s: &[u8], block: Block, slots: &[usize], out: &mut [u8]) -> Plain
-    ensures { λ r. ⌜ PlainPromise (BlockLies (now (s .entry)) block (now (slots .entry))) (block-form (now (s .entry)) block (now (slots .entry))) (now (out .entry)) r (now (out .exit)) ⌝ }
+    ensures { λ r. ⌜ PlainPromise (now (s .entry)) (BlockLies (now (s .entry)) block (now (slots .entry))) (block-form (now (s .entry)) block (now (slots .entry))) (now (out .entry)) r (now (out .exit)) ⌝ }
 {
     if !places::block(s, block, slots) {
         return Plain::Unwritable;

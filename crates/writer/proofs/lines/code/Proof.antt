@@ -20,4 +20,4 @@ code-spec =
     (λ c. search needs)
     (λ c κs. search needs)
     (λ c. search needs)
-    (λ c. code-put (c .before .before .before .before .before .number .ensures) (c .before .before .put .ensures)))
+    (λ c. search (needs, code-put)))

@@ -12,7 +12,7 @@ returns c =
     let c = d .before .before .before .before in
     let b = c .before .before .before .before .before in
     let a = b .before .before .before .before .before in
-    adds-then (adds-then (adds-then (adds-then (a .piece .ensures) (b .put .ensures)) (c .put2 .ensures)) (d .piece2 .ensures)) (e .put3 .ensures)
+    adds-then (adds-then (adds-then (adds-then (a .piece .ensures) (b .put .ensures .0)) (c .put2 .ensures .0)) (d .piece2 .ensures)) (e .put3 .ensures .0)
 
 pub field-spec : {M : Type 1} → statement M
 field-spec =

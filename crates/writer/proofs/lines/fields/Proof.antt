@@ -27,5 +27,5 @@ fields-spec =
     (λ c. search (needs, lined))
     (λ c. search needs)
     (λ c κs. search (needs, lined))
-    (λ c. omega (arith, c .before .before .put .ensures .size, c .before .before .before .before .before .before .loop .inv .put .size))
+    (λ c. omega (arith, c .before .before .put .ensures .0 .size, c .before .before .before .before .before .before .loop .inv .put .size))
     (λ c. search (needs, lined)))

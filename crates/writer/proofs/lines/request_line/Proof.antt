@@ -13,7 +13,7 @@ returns c =
     let c = d .before .before .before .before .before in
     let b = c .before .before .before .before in
     let a = b .before .before .before .before .before in
-    adds-then (adds-then (adds-then (adds-then (adds-then (a .known-piece .ensures) (b .put .ensures)) (c .known-piece2 .ensures)) (d .put2 .ensures)) (e .version .ensures)) (f .put3 .ensures)
+    adds-then (adds-then (adds-then (adds-then (adds-then (a .known-piece .ensures) (b .put .ensures .0)) (c .known-piece2 .ensures)) (d .put2 .ensures .0)) (e .version .ensures)) (f .put3 .ensures .0)
 
 pub request-line-spec : {M : Type 1} → statement M
 request-line-spec =

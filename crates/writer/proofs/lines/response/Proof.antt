@@ -5,12 +5,6 @@ use Rattle.output.specs.Put.{adds-then}
 use Rattle.writer.proofs.lines.response.Statement.{statement}
 use Rattle.writer.proofs.lines.response.Tie as tie
 
-returns : tie.Need-returns
-returns c =
-    let b = c .before .before in
-    let a = b .before .before .before .before in
-    adds-then (a .status-line .ensures) (b .fields .ensures)
-
 pub response-spec : {M : Type 1} → statement M
 response-spec =
     tie.close
@@ -18,4 +12,4 @@ response-spec =
     (λ c κs. search needs)
     (λ c κs. search needs)
     (λ c. search needs)
-    returns)
+    (λ c. search (needs, adds-then)))

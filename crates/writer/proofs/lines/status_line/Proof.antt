@@ -13,7 +13,7 @@ returns c =
     let c = d .before .before .before .before .before in
     let b = c .before .before .before .before in
     let a = b .before .before .before .before .before in
-    adds-then (adds-then (adds-then (adds-then (adds-then (a .version .ensures) (b .put .ensures)) (c .code .ensures)) (d .put2 .ensures)) (e .known-piece .ensures)) (f .put3 .ensures)
+    adds-then (adds-then (adds-then (adds-then (adds-then (a .version .ensures) (b .put .ensures .0)) (c .code .ensures)) (d .put2 .ensures .0)) (e .known-piece .ensures)) (f .put3 .ensures .0)
 
 pub status-line-spec : {M : Type 1} → statement M
 status-line-spec =

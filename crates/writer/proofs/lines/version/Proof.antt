@@ -16,4 +16,4 @@ version-spec =
     (λ c. search needs)
     (λ c κs. search needs)
     (λ c. search needs)
-    (λ c. version-put (c .before .before .before .before .before .number .ensures) (c .before .before .put .ensures)))
+    (λ c. search (needs, version-put)))

@@ -1,0 +1,67 @@
+-- The plain form of a head has at most twice as many bytes: a blank and a line end at most are longer than what was read.
+-- Assumes nothing.
+use Prim.Native.Nat.{ℕ, _+_, _*_, _≤_}
+use native.Mathlib.Omega.{arith}
+use mathlib.Core.Path.{_≡_, refl}
+use mathlib.Core.List.{List, _++_}
+use lib.ListN.{length, length-append}
+use Rattle.rules.specs.Rules.{Rules}
+use Rattle.grammar.specs.Rows.{some}
+use Rattle.grammar.specs.Fields.{Field}
+use Rattle.grammar.specs.Message.{space, colon, CRLF, Version, HTTP-version, RequestLine, request-line, status-code, reason-phrase, StatusLine, status-line, field-line, header-block, request-head, response-head}
+use Rattle.grammar.specs.Message as grammar
+use Rattle.grammar.specs.Lengths.{ends-long}
+use Rattle.plain.specs.Plain.{plain-version, plain-code, plain-field, plain-fields, plain-request-line, plain-status-line, plain-request, plain-response}
+
+-- a name, a colon and a value
+field-room : {w : List ℕ} {f : Field} → field-line w f → length (plain-field f) ≤ length w + 3
+field-room (grammar.field-line.line {n = n} {o = o} {v = v} {t = t} a b c d) =
+    omega (arith, length-append (n ++ colon ++ space ++ v) CRLF, length-append (n ++ colon ++ space) v, length-append (n ++ colon) space, length-append n colon, length-append (n ++ colon ++ o ++ v) t, length-append (n ++ colon ++ o) v, length-append (n ++ colon) o)
+
+field-long : {w : List ℕ} {f : Field} → field-line w f → 2 ≤ length w
+field-long (grammar.field-line.line {n = n} {o = o} {v = v} {t = t} (some x k) b c d) =
+    omega (arith, length-append (n ++ colon ++ o ++ v) t, length-append (n ++ colon ++ o) v, length-append (n ++ colon) o, length-append n colon)
+
+module _ {r : Rules} where
+  pub block-short : {w : List ℕ} {fs : List Field} → header-block r w fs → length (plain-fields fs) ≤ length w * 2
+  block-short (grammar.header-block.end e) = omega (arith, ends-long e)
+  block-short (grammar.header-block.field {w = w} {e = e} {b = b} {f = f} {fs = fs} l d k) =
+      omega (arith, field-room l, field-long l, ends-long d, block-short k, length-append (plain-field f) (plain-fields fs), length-append (w ++ e) b, length-append w e)
+
+  version-eight : {w : List ℕ} {v : Version} → HTTP-version r w v → length w ≡ 8
+  version-eight grammar.HTTP-version.one-zero = refl
+  version-eight grammar.HTTP-version.one-one = refl
+  version-eight (grammar.HTTP-version.other t a b) = refl
+
+  code-three : {w : List ℕ} {n : ℕ} → status-code r w n → length w ≡ 3
+  code-three (grammar.status-code.class a b c) = refl
+  code-three (grammar.status-code.any t a b c) = refl
+
+  reason-given : {w g : List ℕ} → reason-phrase r w g → length g ≤ length w
+  reason-given (grammar.reason-phrase.plain k) = omega arith
+  reason-given (grammar.reason-phrase.whole t k) = omega arith
+  reason-given (grammar.reason-phrase.emptied t a b c) = omega arith
+
+  request-line-room : {w : List ℕ} {l : RequestLine} → request-line r w l → length (plain-request-line l) ≡ length w + 2
+  request-line-room (grammar.request-line.line {m = m} {t = t} {v = v} {n = n} a b c) =
+      omega (arith, version-eight c, length-append (m ++ space ++ t ++ space ++ plain-version n) CRLF, length-append (m ++ space ++ t ++ space) (plain-version n), length-append (m ++ space ++ t) space, length-append (m ++ space) t, length-append m space, length-append (m ++ space ++ t ++ space) v)
+
+  -- a space that was not there is one byte more
+  status-line-room : {w : List ℕ} {l : StatusLine} → status-line r w l → length (plain-status-line l) ≤ length w + 3
+  status-line-room (grammar.status-line.reason {v = v} {c = c} {w = w} {g = g} {n = n} {k = k} a b d) =
+      omega (arith, version-eight a, code-three b, reason-given d, length-append (plain-version n ++ space ++ plain-code k ++ space ++ g) CRLF, length-append (plain-version n ++ space ++ plain-code k ++ space) g, length-append (v ++ space ++ c ++ space) w, length-append (v ++ space ++ c) space, length-append (v ++ space) c, length-append v space)
+  status-line-room (grammar.status-line.no-reason {v = v} {c = c} a b) = omega (arith, version-eight a, code-three b, length-append (v ++ space ++ c) space, length-append (v ++ space) c, length-append v space)
+  status-line-room (grammar.status-line.code-ends {v = v} {c = c} t a b) = omega (arith, version-eight a, code-three b, length-append (v ++ space) c, length-append v space)
+
+  status-line-long : {w : List ℕ} {l : StatusLine} → status-line r w l → 12 ≤ length w
+  status-line-long (grammar.status-line.reason {v = v} {c = c} {w = w} a b d) = omega (arith, version-eight a, code-three b, length-append (v ++ space ++ c ++ space) w, length-append (v ++ space ++ c) space, length-append (v ++ space) c, length-append v space)
+  status-line-long (grammar.status-line.no-reason {v = v} {c = c} a b) = omega (arith, version-eight a, code-three b, length-append (v ++ space ++ c) space, length-append (v ++ space) c, length-append v space)
+  status-line-long (grammar.status-line.code-ends {v = v} {c = c} t a b) = omega (arith, version-eight a, code-three b, length-append (v ++ space) c, length-append v space)
+
+  pub request-short : {w : List ℕ} {l : RequestLine} {fs : List Field} → request-head r w l fs → length (plain-request l fs) ≤ length w * 2
+  request-short (grammar.head.message {e = e} {w = w} {c = c} {b = b} {l = l} {fs = fs} x d y k) =
+      omega (arith, request-line-room d, ends-long y, block-short k, length-append (plain-request-line l) (plain-fields fs), length-append (e ++ w ++ c) b, length-append (e ++ w) c, length-append e w)
+
+  pub response-short : {w : List ℕ} {l : StatusLine} {fs : List Field} → response-head r w l fs → length (plain-response l fs) ≤ length w * 2
+  response-short (grammar.head.message {e = e} {w = w} {c = c} {b = b} {l = l} {fs = fs} x d y k) =
+      omega (arith, status-line-room d, status-line-long d, ends-long y, block-short k, length-append (plain-status-line l) (plain-fields fs), length-append (e ++ w ++ c) b, length-append (e ++ w) c, length-append e w)
