@@ -3,6 +3,7 @@ pub mod Later
 pub mod Lines
 pub mod Blocks
 pub mod Stays
+pub mod SoFar
 pub mod MoreSlots
 pub mod Derivation
 pub mod Rows

@@ -6,6 +6,7 @@ use mathlib.Core.List.{List, _++_}
 use lib.ListN.{length, take, drop}
 use Rattle.rules.specs.Rules.{default}
 use Rattle.grammar.specs.Fields.{Field}
+use Rattle.grammar.specs.Message as grammar
 use Rattle.grammar.specs.Chunked.{chunk-line}
 use Rattle.parts.specs.declared.Error.{Error}
 use Rattle.parts.specs.declared.Error.the-variants.{TooManyHeaders}
@@ -20,6 +21,7 @@ use Rattle.statusline.specs.declared.StatusLine.{StatusLine}
 use Rattle.heads.specs.Head.{Heads}
 use Rattle.chunks.specs.declared.ChunkSize.{ChunkSize}
 use Rattle.chunks.specs.declared.ChunkSize.the-variants as sizes
+use Rattle.agreement.specs.Places.{held}
 use Rattle.agreement.specs.Known.{fieldsIn}
 use Rattle.writer.specs.declared.Plain.{Plain}
 use Rattle.writer.specs.declared.Plain.the-variants.{Written, Needs}
@@ -58,6 +60,33 @@ pub record HeadStays {K : Type 0} (Same : K → K → Type 0) (end end′ : Pass
   -- what was known before the end was reached is unchanged
   pub known : Same line line′
   pub headers : (count ≤ count′) × (take (count * 4) new′ ≡ take (count * 4) new)
+
+-- What is told before the end, and with an error, is true of every head that these bytes may still become, whatever bytes u follow: of its
+-- start line what is known (Agrees), and of its fields those in the slots, which are its first
+abbrev pub SoFar : {L K : Type 0} → (List ℕ → L → List Field → Type 0) → (List ℕ → K → L → Type 0) → List ℕ → K → ℕ → List ℕ → Type 0
+SoFar {L} Head Agrees s line count new = (u w t : List ℕ) (l : L) (fs : List Field) → s ++ u ≡ w ++ t → Head w l fs → Agrees s line l × ((more : List Field) × (fs ≡ fieldsIn s count new ++ more))
+
+-- a piece that is known holds these bytes, and a number that is known is this
+abbrev pub PieceAgrees : List ℕ → KnownPiece → List ℕ → Type 0
+PieceAgrees s (pieces.Is a) w = held s a ≡ w
+PieceAgrees s pieces.NotYet w = Unit {0}
+
+abbrev pub NumberAgrees : KnownNumber → ℕ → Type 0
+NumberAgrees (numbers.Is a) n = a ≡ n
+NumberAgrees numbers.NotYet n = Unit {0}
+
+pub record RequestAgrees (s : List ℕ) (k : RequestLine) (l : grammar.RequestLine) : Type 0 where
+  pub method : PieceAgrees s (k .method) (l .method)
+  pub target : PieceAgrees s (k .target) (l .target)
+  pub version : NumberAgrees (k .version) (l .version .minor)
+
+pub record StatusAgrees (s : List ℕ) (k : StatusLine) (l : grammar.StatusLine) : Type 0 where
+  pub version : NumberAgrees (k .version) (l .version .minor)
+  pub code : NumberAgrees (k .code) (l .code)
+  pub reason : PieceAgrees s (k .reason) (l .reason)
+
+abbrev pub NothingTold : List ℕ → Unit {0} → Unit {0} → Type 0
+NothingTold s k l = Unit {0}
 
 -- More slots change no answer but TooManyHeaders: what a call told, and what it told (with primes) on the same bytes over at least as many
 -- slots. Where there were too few, the start line is the same, and the headers that were given are the first of those given now.
