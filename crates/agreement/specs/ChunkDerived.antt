@@ -13,7 +13,7 @@ use Rattle.reader.specs.Tests.{split}
 use Rattle.octets.specs.Grammar.{HEXDIG}
 use Rattle.octets.specs.Grammar as bytes
 use Rattle.octets.specs.Class.{isHexDigit, isBlank}
-use Rattle.octets.proofs.Ties.{hex-digit-is-HEXDIG, blank-is-blank}
+use Rattle.octets.specs.Ties.{hex-digit-is-HEXDIG, blank-is-blank}
 use Rattle.rules.specs.Rules.{default}
 use Rattle.grammar.specs.Rows.{Many, none, more}
 use Rattle.grammar.specs.Message.{CRLF}

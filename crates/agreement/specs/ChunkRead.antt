@@ -11,7 +11,7 @@ use Rattle.reader.specs.Machine.{Run, gave, run}
 use Rattle.octets.specs.Grammar.{blank}
 use Rattle.octets.specs.Grammar as bytes
 use Rattle.octets.specs.Class.{among, within, isDigit, isHexDigit, isBlank}
-use Rattle.octets.proofs.Ties.{hex-digit-is-HEXDIG, blank-is-blank}
+use Rattle.octets.specs.Ties.{hex-digit-is-HEXDIG, blank-is-blank}
 use Rattle.rules.specs.Rules.{default}
 use Rattle.grammar.specs.Rows.{Many, none, more}
 use Rattle.grammar.specs.Fields.{OWS}

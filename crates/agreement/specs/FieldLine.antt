@@ -10,7 +10,7 @@ use lib.ListN.{length, length-append}
 use borrow.Author.Tests.{ne-eqb}
 use Rattle.exact.specs.Branch.{one, other}
 use Rattle.octets.specs.Class.{among, within, isDigit, isToken, isBlank, isTarget, isValue}
-use Rattle.octets.proofs.Ties.{token-is-tchar}
+use Rattle.octets.specs.Ties.{token-is-tchar}
 use Rattle.rules.specs.Rules.{Rules}
 use Rattle.grammar.specs.Rows.{some}
 use Rattle.grammar.specs.Fields.{Field}

@@ -11,7 +11,7 @@ use borrow.Author.Tests.{eqb-false}
 use Rattle.octets.specs.Grammar.{blank, tchar, text}
 use Rattle.octets.specs.Grammar as bytes
 use Rattle.octets.specs.Class.{among, within, isDigit, isToken}
-use Rattle.octets.proofs.Ties.{token-is-tchar}
+use Rattle.octets.specs.Ties.{token-is-tchar}
 use Rattle.rules.specs.Rules.{default}
 use Rattle.grammar.specs.Rows.{Many, none, more, Some, some}
 use Rattle.grammar.specs.Fields.{OWS, qdtext, quoted, quoted-string}

@@ -6,7 +6,7 @@ use mathlib.Core.List.{List, _∷_, _++_, append-assoc}
 use mathlib.Core.Bool.{true, _&&_}
 use lib.ListN.{length}
 use Rattle.octets.specs.Class.{isToken}
-use Rattle.octets.proofs.Ties.{token-is-tchar}
+use Rattle.octets.specs.Ties.{token-is-tchar}
 use Rattle.rules.specs.Rules.{Rules}
 use Rattle.grammar.specs.Rows.{some}
 use Rattle.grammar.specs.Message.{space, empty-lines, line-end, request-line}

@@ -9,11 +9,11 @@ use mathlib.Core.Bool.{Bool, true, false, false≢true}
 use Rattle.octets.specs.Grammar.{Range, DIGIT, VCHAR, obs-text, field-vchar, blank, text}
 use Rattle.octets.specs.Grammar as bytes
 use Rattle.octets.specs.Class.{isTarget, isValue, isAscii}
-use Rattle.octets.proofs.Ties.{in-range, range-in, above-range, digit-is-DIGIT, value-is-text}
+use Rattle.octets.specs.Ties.{in-range, range-in, above-range, digit-is-DIGIT, value-is-text}
 use Rattle.utf8.specs.Grammar.{UTF8-octets}
 use Rattle.utf8.specs.Grammar as characters
 use Rattle.utf8.specs.Reader.{utf8}
-use Rattle.utf8.proofs.Exact.{utf8-exact}
+use Rattle.utf8.specs.Exact.{utf8-exact}
 use Rattle.rules.specs.Rules.{Rules, default}
 use Rattle.grammar.specs.Rows.{Many, none, more, Some, some}
 use Rattle.grammar.specs.Message.{Version, HTTP-version, one-zero, one-one, request-target, status-code, plain-text, reason-phrase}

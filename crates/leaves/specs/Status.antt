@@ -1,4 +1,4 @@
--- The small parts of a status line: a space, what stands behind a code, and a code of three digits.
+-- A space, and a code of three digits: their readers take exactly these.
 -- Assumes nothing.
 use Prim.Native.Nat.{ℕ, _+_}
 use native.Mathlib.Omega.{arith}

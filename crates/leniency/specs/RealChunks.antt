@@ -12,7 +12,7 @@ use Rattle.reader.specs.Machine.{refused, run}
 use Rattle.octets.specs.Grammar.{HEXDIG, blank, tchar}
 use Rattle.octets.specs.Grammar as bytes
 use Rattle.octets.specs.Class.{among, within, isDigit, isHexDigit, isBlank, isToken}
-use Rattle.octets.proofs.Ties.{in-range, blank-is-blank, hex-digit-is-HEXDIG}
+use Rattle.octets.specs.Ties.{in-range, blank-is-blank, hex-digit-is-HEXDIG}
 use Rattle.rules.specs.Rules.{Rules, default}
 use Rattle.grammar.specs.Rows.{Many, none, more, Some, some}
 use Rattle.grammar.specs.Message.{CRLF}

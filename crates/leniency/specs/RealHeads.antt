@@ -10,7 +10,7 @@ use borrow.Author.Tests.{eqb-false}
 use Rattle.octets.specs.Grammar.{DIGIT, tchar}
 use Rattle.octets.specs.Grammar as bytes
 use Rattle.octets.specs.Class.{among, within, isDigit, isToken}
-use Rattle.octets.proofs.Ties.{in-range}
+use Rattle.octets.specs.Ties.{in-range}
 use Rattle.utf8.specs.Grammar as characters
 use Rattle.rules.specs.Rules.{Rules}
 use Rattle.grammar.specs.Rows.{none, more, some}

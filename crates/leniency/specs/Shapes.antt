@@ -7,7 +7,7 @@ use mathlib.Core.List.{List, [], _∷_, _++_, append-assoc}
 use mathlib.Core.Bool.{true, false}
 use Rattle.octets.specs.Grammar.{tchar}
 use Rattle.octets.specs.Class.{isToken}
-use Rattle.octets.proofs.Ties.{token-is-tchar}
+use Rattle.octets.specs.Ties.{token-is-tchar}
 use Rattle.rules.specs.Rules.{Rules}
 use Rattle.grammar.specs.Rows.{none, more}
 use Rattle.grammar.specs.Fields.{Field}

@@ -1,2 +1,4 @@
 pub mod Grammar
 pub mod Class
+pub mod Table
+pub mod Ties

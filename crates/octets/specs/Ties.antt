@@ -36,10 +36,6 @@ pub range-in : (lo hi b : ℕ) → Range lo hi b → within lo hi b ≡ true
 unfolding within
 range-in lo hi b r = rw (le-leb lo b (r .low), le-leb b hi (r .high))
 
-pub below-range : (lo hi b : ℕ) → b < lo → within lo hi b ≡ false
-unfolding within
-below-range lo hi b h = rw (lt-leb lo b h)
-
 pub above-range : (lo hi b : ℕ) → hi < b → within lo hi b ≡ false
 unfolding within
 above-range lo hi b h = rw (lt-leb b hi h) (neither (leb lo b))
