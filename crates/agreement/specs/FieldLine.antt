@@ -8,6 +8,7 @@ use mathlib.Core.Bool.{Bool, true, false, _&&_, _||_, false≢true}
 use lib.Dec.{eqb}
 use lib.ListN.{length, length-append}
 use borrow.Author.Tests.{ne-eqb}
+use Rattle.reader.specs.Tests.{never}
 use Rattle.exact.specs.Branch.{one, other}
 use Rattle.octets.specs.Class.{among, within, isDigit, isToken, isBlank, isTarget, isValue}
 use Rattle.octets.specs.Ties.{token-is-tchar}
@@ -142,7 +143,7 @@ kind-value e = cc
 
 -- where a line is a header's, its pieces are those that were read
 pub line-in : {r : Rules} {p : ℕ} {w rest : List ℕ} {h : Header} → Lined r p w (header h) rest → HeaderIn (p + length w) h
-line-in (one b bs e t K) = let n : _≡_ {A = ℕ} 0 1 = cc in absurd (omega arith)
+line-in (one b bs e t K) = never cc
 line-in {p = p} {w = w} {h = h} (other b bs e t K) =
     let S = K .right in
     let same : header h ≡ named (K .a) (S .a) = passed-is (S .right .passes) in

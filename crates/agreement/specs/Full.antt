@@ -1,7 +1,6 @@
 -- TooManyHeaders is answered only where the slots are full.
 -- Assumes nothing.
 use Prim.Native.Nat.{ℕ, _+_, _≤_}
-use native.Mathlib.Omega.{arith}
 use mathlib.Core.Path.{_≡_, refl, subst}
 use mathlib.Core.List.{List, [], _∷_, _++_}
 use mathlib.Core.Bool.{Bool, true, false, cond, _&&_}
@@ -15,7 +14,7 @@ use Rattle.reader.specs.Loop.{Turn, again, done, turned, loop}
 use Rattle.reader.specs.Branch.{fresh, one, other, lifted, branch}
 use Rattle.reader.specs.Answer.{bad, answered-bad, lapwise}
 use Rattle.reader.specs.Chain.{part}
-use Rattle.reader.specs.Tests.{split}
+use Rattle.reader.specs.Tests.{split, never}
 use Rattle.octets.specs.Class.{isDigit, isBlank, isToken, isTarget, isValue}
 use Rattle.utf8.specs.Reader.{whole}
 use Rattle.rules.specs.Rules.{Rules}
@@ -54,12 +53,12 @@ Refuses {S} P m = (s : S) (p b : ℕ) → Refusal P (m s p b)
 module _ {S A F : Type 0} (P : F → Type 0) (m : Step S A F) (R : Refuses P m) where
   refused-step : (bs : List ℕ) (p : ℕ) (e : F) (q : ℕ) (v : Move S A F) → Refusal P v → ((s : S) → run m s (p + 1) bs ≡ refused e q → P e) → after v p (λ s. run m s (p + 1) bs) ≡ refused e q → P e
   refused-step bs p e q (keep s) h ih u = ih s u
-  refused-step bs p e q (give a) h ih u = let n : _≡_ {A = ℕ} 0 1 = cc in absurd (omega arith)
-  refused-step bs p e q (before a) h ih u = let n : _≡_ {A = ℕ} 0 1 = cc in absurd (omega arith)
+  refused-step bs p e q (give a) h ih u = never cc
+  refused-step bs p e q (before a) h ih u = never cc
   refused-step bs p e q (refuse x) h ih u = let n : x ≡ e = cc in subst P n h
 
   refused-is : (bs : List ℕ) (s : S) (p : ℕ) (e : F) (q : ℕ) → run m s p bs ≡ refused e q → P e
-  refused-is [] s p e q u = let n : _≡_ {A = ℕ} 0 1 = cc in absurd (omega arith)
+  refused-is [] s p e q u = never cc
   refused-is (b ∷ bs) s p e q u = refused-step bs p e q (m s p b) (R s p b) (λ s′. refused-is bs s′ (p + 1) e q) u
 
 -- machines made of machines
@@ -129,22 +128,22 @@ abbrev pub Ordinary : Error → Type 0
 Ordinary e = e ≡ TooManyHeaders → ⊥
 
 name-ordinary : Ordinary HeaderName
-name-ordinary e = let n : _≡_ {A = ℕ} 0 1 = cc in omega arith
+name-ordinary e = never cc
 
 value-ordinary : Ordinary HeaderValue
-value-ordinary e = let n : _≡_ {A = ℕ} 0 1 = cc in omega arith
+value-ordinary e = never cc
 
 line-ordinary : Ordinary NewLine
-line-ordinary e = let n : _≡_ {A = ℕ} 0 1 = cc in omega arith
+line-ordinary e = never cc
 
 status-ordinary : Ordinary Status
-status-ordinary e = let n : _≡_ {A = ℕ} 0 1 = cc in omega arith
+status-ordinary e = never cc
 
 token-ordinary : Ordinary Token
-token-ordinary e = let n : _≡_ {A = ℕ} 0 1 = cc in omega arith
+token-ordinary e = never cc
 
 version-ordinary : Ordinary Version
-version-ordinary e = let n : _≡_ {A = ℕ} 0 1 = cc in omega arith
+version-ordinary e = never cc
 
 -- the parts
 end-refuses : (r : Rules) (x : Error) → Ordinary x → Refuses Ordinary (lineEndStep r x)
@@ -188,7 +187,7 @@ value-refuses (inside v e) p b = split (Refusal Ordinary) (isValue b) (λ _. tt)
 
 -- a verdict that always passes
 passes : {A B F : Type 0} (Q : F → Type 0) (f : A → B) (a : A) (x : F) → pass (f a) ≡ fail x → Q x
-passes Q f a x e = let n : _≡_ {A = ℕ} 0 1 = cc in absurd (omega arith)
+passes Q f a x e = never cc
 
 -- a line
 line-refuses : (r : Rules) → Refuses Ordinary (lineStep r)
@@ -204,11 +203,11 @@ abbrev Full : ℕ → Error × List Header → Type 0
 Full n x = x .0 ≡ TooManyHeaders → n ≤ length (x .1)
 
 taken-full : (n : ℕ) (hs : List Header) (k : Kind) (x : Error × List Header) → taken n hs k ≡ fail x → Full n x
-taken-full n hs end x e = let n : _≡_ {A = ℕ} 0 1 = cc in absurd (omega arith)
+taken-full n hs end x e = never cc
 taken-full n hs (header h) x e = by (ltb (length hs) n) refl e
   where
     by : (t : Bool) → ltb (length hs) n ≡ t → _≡_ {A = Verdict (Turn (List Header) (List Header)) (Error × List Header)} (cond t (pass (again (hs ++ (h ∷ [])))) (fail (TooManyHeaders, hs))) (fail x) → Full n x
-    by true t u = let n : _≡_ {A = ℕ} 0 1 = cc in absurd (omega arith)
+    by true t u = never cc
     by false t u = let v : _≡_ {A = Error × List Header} (TooManyHeaders, hs) x = cc in subst (Full n) v (λ _. ltb-false (length hs) n t)
 
 block-refuses : (r : Rules) (n : ℕ) → Refuses (Full n) (blockStep r n)

@@ -8,6 +8,7 @@ use lib.ListN.{length, drop, length-append, length-drop}
 use Rattle.reader.specs.Machine.{Step}
 use Rattle.reader.specs.Answer.{Answer, got, short, bad, answered, and}
 use Rattle.reader.specs.Chain.{nothing, reads, ended, last, chain}
+use Rattle.reader.specs.Tests.{never}
 use Rattle.exact.specs.Exact.{Relation, Exact}
 use Rattle.octets.specs.Class.{isToken}
 use Rattle.rules.specs.Rules.{Rules, default}
@@ -105,10 +106,10 @@ reason-got (got w i) y a q e = (i, ap (λ v. got v i) (by (y w i) e))
   where
     by : (b : Answer (Unit {0}) (Unit {0}) Error) → ended w b ≡ got a q → w ≡ a
     by (got u j) f = cc
-    by (short u) f = let n : _≡_ {A = ℕ} 0 1 = cc in absurd (omega arith)
-    by (bad u) f = let n : _≡_ {A = ℕ} 0 1 = cc in absurd (omega arith)
-reason-got (short u) y a q e = let n : _≡_ {A = ℕ} 0 1 = cc in absurd (omega arith)
-reason-got (bad u) y a q e = let n : _≡_ {A = ℕ} 0 1 = cc in absurd (omega arith)
+    by (short u) f = never cc
+    by (bad u) f = never cc
+reason-got (short u) y a q e = never cc
+reason-got (bad u) y a q e = never cc
 
 module _ (r : Rules) (z : List ℕ) where
   abbrev Lies : StatusLine → Type 0

@@ -1,6 +1,6 @@
 -- The promises are kept wherever a call tells what an exact reader answers.
 -- Assumes nothing.
-use Prim.Native.Nat.{ℕ, _+_, _*_, _/_, _≤_, _<_}
+use Prim.Native.Nat.{ℕ, _*_, _/_, _≤_, _<_}
 use native.Mathlib.Omega.{arith}
 use mathlib.Core.Path.{_≡_, refl, sym, ap, subst, _∙_}
 use mathlib.Core.List.{List, [], _∷_, _++_}
@@ -10,6 +10,7 @@ use lib.ListN.{length, take, drop, length-append, length-drop}
 use lib.Seq.{drop-at}
 use borrow.Author.Tests.{ltb-true, ltb-false}
 use Rattle.reader.specs.Answer.{got, bad}
+use Rattle.reader.specs.Tests.{never}
 use Rattle.grammar.specs.Fields.{Field}
 use Rattle.parts.specs.declared.Error.{Error}
 use Rattle.parts.specs.declared.Error.the-variants.{TooManyHeaders}
@@ -59,12 +60,12 @@ filled-length hs old l = omega (arith, l, length-append (flat hs) (drop (length 
 module _ {K : Type 0} where
   same-got : (end : Passed) (k k′ : K) (hs hs′ : List Header) (q : ℕ) → _≡_ {A = Heads K} (tell end (k, hs)) (got (k′, hs′) q) → (end ≡ At q) × (k ≡ k′) × (hs ≡ hs′)
   same-got (At p) k k′ hs hs′ q e = let u : _≡_ {A = Known K} (k, hs) (k′, hs′) = cc in (cc, ap (λ y. y .0) u, ap (λ y. y .1) u)
-  same-got More k k′ hs hs′ q e = let n : _≡_ {A = ℕ} 0 1 = cc in absurd (omega arith)
-  same-got (Bad x) k k′ hs hs′ q e = let n : _≡_ {A = ℕ} 0 1 = cc in absurd (omega arith)
+  same-got More k k′ hs hs′ q e = never cc
+  same-got (Bad x) k k′ hs hs′ q e = never cc
 
   same-bad : (end : Passed) (k k′ : K) (hs hs′ : List Header) (x : Error) → _≡_ {A = Heads K} (tell end (k, hs)) (bad (x, (k′, hs′))) → (end ≡ Bad x) × (k ≡ k′) × (hs ≡ hs′)
-  same-bad (At p) k k′ hs hs′ q e = let n : _≡_ {A = ℕ} 0 1 = cc in absurd (omega arith)
-  same-bad More k k′ hs hs′ q e = let n : _≡_ {A = ℕ} 0 1 = cc in absurd (omega arith)
+  same-bad (At p) k k′ hs hs′ q e = never cc
+  same-bad More k k′ hs hs′ q e = never cc
   same-bad (Bad x) k k′ hs hs′ q e = let u : _≡_ {A = Error × Known K} (x, (k, hs)) (q, (k′, hs′)) = cc in (ap (λ y. Bad (y .0)) u, ap (λ y. y .1 .0) u, ap (λ y. y .1 .1) u)
 
 -- what a call tells of the start line is what the reader knows of it
@@ -77,13 +78,13 @@ told-line {K} {a} {end} {line} T = ap (λ (y : Heads K). knownOf y .0) (sym (T .
     by (Bad x) = refl
 
 at-more : {q : ℕ} → At q ≡ More → ⊥
-at-more e = let n : _≡_ {A = ℕ} 0 1 = cc in omega arith
+at-more e = never cc
 
 bad-same : {x y : Error} → Bad x ≡ Bad y → x ≡ y
 bad-same e = cc
 
 bad-more : {x : Error} → Bad x ≡ More → ⊥
-bad-more e = let n : _≡_ {A = ℕ} 0 1 = cc in omega arith
+bad-more e = never cc
 
 module _ {L K : Type 0} {Head : List ℕ → L → List Field → Type 0} {Says : List ℕ → K → L → Type 0} {s old : List ℕ} {end : Passed} {line : K} {count : ℕ} {new : List ℕ} {read : List ℕ → Heads K} {In : List ℕ → K → Type 0} (X : Exactly Head Says (length old / 4) read) (Y : Lies In read) (T : Told (read s) end line count old new) where
   -- the slots hold what the reader has given
@@ -123,7 +124,7 @@ module _ {L K : Type 0} {Head : List ℕ → L → List Field → Type 0} {Says 
       let b : read (s ++ u) ≡ bad (x, (line, given (read s))) = X .stays s u (x, (line, given (read s))) (read-bad x e) in
       let g : read (s ++ u) ≡ got (A .k, A .hs) (length w) = ap read i ∙ A .answers in
       let c = sym b ∙ g in
-      let n : _≡_ {A = ℕ} 0 1 = cc in omega arith
+      never cc
 
   errs-at-all : (x : Error) → end ≡ Bad x → (x ≡ TooManyHeaders → ⊥) → (u w t : List ℕ) (l : L) (fs : List Field) → s ++ u ≡ w ++ t → Head w l fs → ⊥
   errs-at-all x e other u w t l fs i h = by (ltb (length old / 4) (length fs)) refl

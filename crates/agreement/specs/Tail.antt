@@ -1,11 +1,11 @@
 -- What stands behind a status code is read exactly where the grammar has it: a space and a reason, a space, or nothing.
 -- Assumes nothing.
 use Prim.Native.Nat.{ℕ, _+_}
-use native.Mathlib.Omega.{arith}
 use mathlib.Core.Path.{_≡_, refl, sym, ap, subst, _∙_}
 use mathlib.Core.List.{List, [], _∷_, _++_, append-assoc, append-nil}
 use mathlib.Core.Bool.{true, false}
 use lib.ListN.{length}
+use Rattle.reader.specs.Tests.{never}
 use Rattle.octets.specs.Class.{among, within, isBlank, isTarget, isValue}
 use Rattle.rules.specs.Rules.{Rules}
 use Rattle.grammar.specs.Rows.{none, more}
@@ -72,9 +72,9 @@ module _ {r : Rules} (fixed : Fixed r) {z : List ℕ} where
   -- where nothing stands behind the code
   cut : {p : ℕ} {u rest : List ℕ} {a : Piece} → r .code-ends-line ≡ true → At z p u rest → Reasoned p u a rest → u ≡ [] → Tail r u (held z a)
   cut x h (plain none s) e = subst (Tail r []) (sym (held-at h)) (short x)
-  cut x h (plain (more y k) s) e = let n : _≡_ {A = ℕ} 0 1 = cc in absurd (omega arith)
-  cut x h (obsolete none o l s) e = let n : _≡_ {A = ℕ} 0 1 = cc in absurd (omega arith)
-  cut x h (obsolete (more y k) o l s) e = let n : _≡_ {A = ℕ} 0 1 = cc in absurd (omega arith)
+  cut x h (plain (more y k) s) e = never cc
+  cut x h (obsolete none o l s) e = never cc
+  cut x h (obsolete (more y k) o l s) e = never cc
 
   pub tail-derived : {q : ℕ} {w u x rest : List ℕ} {a : Piece} → Behind r q w tt x → x ≡ u ++ rest → At z (q + length w) u rest → Reasoned (q + length w) u a rest → Tail r (w ++ u) (held z a)
   tail-derived behind.space e h R = spaced h R

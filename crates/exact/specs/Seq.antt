@@ -8,6 +8,7 @@ use lib.ListN.{length, drop, replicate, length-replicate, length-append}
 use lib.Seq.{drop-at}
 use Rattle.reader.specs.Machine.{Run, more, gave, refused, Step, run}
 use Rattle.reader.specs.Seq.{first, seq, carried, bind, run-seq}
+use Rattle.reader.specs.Tests.{never}
 use Rattle.exact.specs.Exact.{Relation, Part, Exact}
 
 -- the bytes of the second are part of what follows the first
@@ -36,8 +37,8 @@ module _ {S A T B F : Type 0} (m : Step S A F) (start : A → T) (n : A → Step
 
   module _ {G : Relation A} {H : A → Relation B} (M : Exact m s G) (N : (a : A) → Exact (n a) (start a) (H a)) where
     sound-second : (p : ℕ) (b : B) (q : ℕ) (a : A) (w rest : List ℕ) → G p w a rest → (r : Run T B F) → run (n a) (start a) (p + length w) rest ≡ r → carried {S = S} a r ≡ gave b q → Part (Both G H) p (w ++ rest) b q
-    sound-second p b q a w rest g (more t) u e = let z : _≡_ {A = ℕ} 0 1 = cc in absurd (omega arith)
-    sound-second p b q a w rest g (refused x i) u e = let z : _≡_ {A = ℕ} 0 1 = cc in absurd (omega arith)
+    sound-second p b q a w rest g (more t) u e = never cc
+    sound-second p b q a w rest g (refused x i) u e = never cc
     sound-second p b q a w rest g (gave c i) u e =
         let v : run (n a) (start a) (p + length w) rest ≡ gave b q = u ∙ cc in
         let P = N a .sound (p + length w) rest b q v in
@@ -51,8 +52,8 @@ module _ {S A T B F : Type 0} (m : Step S A F) (start : A → T) (n : A → Step
         }
 
     sound-first : (p : ℕ) (xs : List ℕ) (b : B) (q : ℕ) → run (seq m start n) (first s) p xs ≡ gave b q → (r : Run S A F) → run m s p xs ≡ r → Part (Both G H) p xs b q
-    sound-first p xs b q e (more t) u = let k = sym (both p xs) ∙ e in let k′ : more (first t) ≡ gave b q = rw u at k in let z : _≡_ {A = ℕ} 0 1 = cc in absurd (omega arith)
-    sound-first p xs b q e (refused x i) u = let k = sym (both p xs) ∙ e in let k′ : refused x i ≡ gave b q = rw u at k in let z : _≡_ {A = ℕ} 0 1 = cc in absurd (omega arith)
+    sound-first p xs b q e (more t) u = let k = sym (both p xs) ∙ e in let k′ : more (first t) ≡ gave b q = rw u at k in never cc
+    sound-first p xs b q e (refused x i) u = let k = sym (both p xs) ∙ e in let k′ : refused x i ≡ gave b q = rw u at k in never cc
     sound-first p xs b q e (gave a i) u = go (M .sound p xs a i u)
       where
         go : Part G p xs a i → Part (Both G H) p xs b q

@@ -7,7 +7,7 @@ use mathlib.Core.List.{List, [], _∷_, _++_, append-assoc}
 use mathlib.Core.Bool.{Bool, true, false, _||_, cond}
 use lib.ListN.{length, length-append}
 use Rattle.reader.specs.Machine.{Move, gave, after, run}
-use Rattle.reader.specs.Tests.{split}
+use Rattle.reader.specs.Tests.{split, never}
 use Rattle.exact.specs.Exact.{Part, Exact}
 use Rattle.octets.specs.Class.{isBlank, isTarget, isValue}
 use Rattle.parts.specs.declared.Error.{Error}
@@ -62,7 +62,7 @@ left-more : (o e e′ p b : ℕ) (bs : List ℕ) (a : Piece) (q : ℕ) → ((w :
 left-more o e e′ p b bs a q f k = record { w = b ∷ k .w; rest = k .rest; end = k .end; whole = ap (λ y. b ∷ y) (k .whole); behind = omega (arith, k .behind); tail = f (k .w) (k .end) (k .tail); place = k .place; stop = k .stop }
 
 sound-inside : (o : ℕ) (xs : List ℕ) (e p : ℕ) (a : Piece) (q : ℕ) → run valueStep (inside o e) p xs ≡ gave a q → Left o e p xs a q
-sound-inside o [] e p a q = λ h. let z : _≡_ {A = ℕ} 0 1 = cc in absurd (omega arith)
+sound-inside o [] e p a q = λ h. never cc
 sound-inside o (b ∷ bs) e p a q =
     let ih : (n : ℕ) → run valueStep (inside o n) (p + 1) bs ≡ gave a q → Left o n (p + 1) bs a q = λ n. sound-inside o bs n (p + 1) a q in
     split (λ u. after u p (λ s. run valueStep s (p + 1) bs) ≡ gave a q → Left o e p (b ∷ bs) a q) (isValue b)
@@ -93,7 +93,7 @@ from-solid p b {rest = rest} d (solid-tail {m = m} {t = t} {c = c} k e u) s =
     subst (λ z. Valued p ((b ∷ m) ++ (c ∷ []) ++ t) z rest) (ap (λ z. piece z (p + 0 + length ((b ∷ m) ++ (c ∷ [])))) (sym x) ∙ ap (piece p) (sym y)) (full {o = []} {v = (b ∷ m) ++ (c ∷ [])} {t = t} none (two d k e) u s)
 
 sound-value : (xs : List ℕ) (p : ℕ) (a : Piece) (q : ℕ) → run valueStep blanks p xs ≡ gave a q → Part Valued p xs a q
-sound-value [] p a q = λ h. let z : _≡_ {A = ℕ} 0 1 = cc in absurd (omega arith)
+sound-value [] p a q = λ h. never cc
 sound-value (b ∷ bs) p a q =
     let G : Move Value Piece Error → Type 0 = λ u. after u p (λ s. run valueStep s (p + 1) bs) ≡ gave a q → Part Valued p (b ∷ bs) a q in
     let ih = sound-value bs (p + 1) a q in

@@ -9,6 +9,7 @@ use lib.Dec.{eqb}
 use lib.ListN.{length}
 use borrow.Author.Tests.{eqb-false}
 use Rattle.reader.specs.Machine.{refused, run}
+use Rattle.reader.specs.Tests.{never}
 use Rattle.octets.specs.Grammar.{HEXDIG, blank, tchar}
 use Rattle.octets.specs.Grammar as bytes
 use Rattle.octets.specs.Class.{among, within, isDigit, isHexDigit, isBlank, isToken}
@@ -162,5 +163,5 @@ refuses = refl
 pub sixteen-digits-real : Restricts (λ r. r .sixteen-digits) (Chunk seventeen)
 sixteen-digits-real = (
   λ r f. (0, chunked.chunk-line.line (chunked.chunk-size.digits (zero (zero (zero (zero (zero (zero (zero (zero (zero (zero (zero (zero (zero (zero (zero (zero (zero chunked.hexadecimal.none))))))))))))))))) (omega arith) (λ t. absurd (clash t f))) (chunked.behind-size.extension chunked.chunk-ext.none)),
-  λ r t d. let e = sym refuses ∙ chunk-read (in-default t (d .1)) [] in let n : _≡_ {A = ℕ} 0 1 = cc in omega arith,
+  λ r t d. let e = sym refuses ∙ chunk-read (in-default t (d .1)) [] in never cc,
 )

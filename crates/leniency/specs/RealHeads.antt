@@ -7,6 +7,7 @@ use mathlib.Core.List.{List, [], _∷_, _++_, append-assoc}
 use mathlib.Core.Bool.{true, false}
 use lib.Dec.{eqb}
 use borrow.Author.Tests.{eqb-false}
+use Rattle.reader.specs.Tests.{never}
 use Rattle.octets.specs.Grammar.{DIGIT, tchar}
 use Rattle.octets.specs.Grammar as bytes
 use Rattle.octets.specs.Class.{among, within, isDigit, isToken}
@@ -100,8 +101,8 @@ no-end b f g crlf zs ys e = eqb-false 13 b f (same-head e)
 no-end b f g (lf t) zs ys e = eqb-false 10 b g (same-head e)
 
 no-given : {r : Rules} {w g : List ℕ} → r .obs-reason ≡ false → reason-phrase r w g → g ≡ [] → ⊥
-no-given f (grammar.reason-phrase.plain (some x k)) e = let n : _≡_ {A = ℕ} 0 1 = cc in omega arith
-no-given f (grammar.reason-phrase.whole t (some x k)) e = let n : _≡_ {A = ℕ} 0 1 = cc in omega arith
+no-given f (grammar.reason-phrase.plain (some x k)) e = never cc
+no-given f (grammar.reason-phrase.whole t (some x k)) e = never cc
 no-given f (grammar.reason-phrase.emptied t k o l) e = clash t f
 
 no-emptied : {r : Rules} {t g c : List ℕ} → r .obs-reason ≡ false → Tail r t g → g ≡ [] → line-end r c → (zs ys : List ℕ) → t ++ (c ++ zs) ≡ 32 ∷ 0x80 ∷ ys → ⊥
