@@ -7,7 +7,8 @@ use mathlib.Core.List.{List, [], _∷_, _++_, append-nil}
 use lib.ListN.{length, drop, length-append, length-drop}
 use Rattle.reader.specs.Machine.{Step}
 use Rattle.reader.specs.Answer.{Answer, got, short, bad, answered, and}
-use Rattle.reader.specs.Chain.{nothing, reads, ended, last, chain}
+use Rattle.reader.specs.Known.{knownOf, last-holds, chain-holds}
+use Rattle.reader.specs.Chain.{nothing, reads, ended}
 use Rattle.reader.specs.Tests.{never}
 use Rattle.exact.specs.Exact.{Relation, Exact}
 use Rattle.octets.specs.Class.{isToken}
@@ -38,24 +39,6 @@ use Rattle.agreement.specs.Places.{held, at-drop, at-as, at-first, held-
 use Rattle.agreement.specs.Rows.{many-as, tokens}
 use Rattle.agreement.specs.Starts.{default-fixed, target-derived, plain-is}
 use Rattle.agreement.specs.Known.{RequestInside, StatusInside}
-
--- what an answer knows
-abbrev pub knownOf : {K E : Type 0} → Answer K K (E × K) → K
-knownOf (got k q) = k
-knownOf (short k) = k
-knownOf (bad x) = x .1
-
--- what holds before a part and with what it adds holds of what is known in the end
-module _ {K A E : Type 0} (P : K → Type 0) (k : K) (f : A → K) (h : P k) where
-  last-holds : (a : Answer (Unit {0}) A E) → ((x : A) (q : ℕ) → a ≡ got x q → P (f x)) → P (knownOf (last k f a))
-  last-holds (got x q) g = g x q refl
-  last-holds (short u) g = h
-  last-holds (bad e) g = h
-
-  chain-holds : (next : K → ℕ → Answer K K (E × K)) (a : Answer (Unit {0}) A E) → ((x : A) (q : ℕ) → a ≡ got x q → P (knownOf (next (f x) q))) → P (knownOf (chain k f a next))
-  chain-holds next (got x q) g = g x q refl
-  chain-holds next (short u) g = h
-  chain-holds next (bad e) g = h
 
 -- a piece that an exact machine gives lies in the input and holds such bytes, where its relation says that it does so in what was read
 module _ {S : Type 0} {m : Step S Piece Error} {s : S} {G : Relation Piece} (M : Exact m s G) (Such : List ℕ → Type 0)

@@ -11,6 +11,7 @@ use lib.Seq.{drop-at}
 use borrow.Author.Tests.{ltb-true, ltb-false}
 use Rattle.reader.specs.Answer.{got, bad}
 use Rattle.reader.specs.Tests.{never}
+use Rattle.reader.specs.Known.{knownOf}
 use Rattle.grammar.specs.Fields.{Field}
 use Rattle.parts.specs.declared.Error.{Error}
 use Rattle.parts.specs.declared.Error.the-variants.{TooManyHeaders}
@@ -23,7 +24,6 @@ use Rattle.heads.specs.Head.{Heads, Known, given, Told}
 use Rattle.agreement.specs.FieldLine.{fieldOf, HeaderIn}
 use Rattle.agreement.specs.Fields.{fieldsOf, Each, are-fields}
 use Rattle.agreement.specs.Known.{fieldsIn, SlotsInside, AreFields}
-use Rattle.agreement.specs.Inside.{knownOf}
 use Rattle.agreement.specs.Exactly.{Exactly, Lies}
 use Rattle.agreement.specs.Promises.{HeadAt, HeadPromise}
 
@@ -58,15 +58,15 @@ filled-length hs old l = omega (arith, l, length-append (flat hs) (drop (length 
 
 -- an answer tells how it ended, and what is known
 module _ {K : Type 0} where
-  same-got : (end : Passed) (k k′ : K) (hs hs′ : List Header) (q : ℕ) → _≡_ {A = Heads K} (tell end (k, hs)) (got (k′, hs′) q) → (end ≡ At q) × (k ≡ k′) × (hs ≡ hs′)
-  same-got (At p) k k′ hs hs′ q e = let u : _≡_ {A = Known K} (k, hs) (k′, hs′) = cc in (cc, ap (λ y. y .0) u, ap (λ y. y .1) u)
-  same-got More k k′ hs hs′ q e = never cc
-  same-got (Bad x) k k′ hs hs′ q e = never cc
+  told-got : (end : Passed) (k k′ : K) (hs hs′ : List Header) (q : ℕ) → _≡_ {A = Heads K} (tell end (k, hs)) (got (k′, hs′) q) → (end ≡ At q) × (k ≡ k′) × (hs ≡ hs′)
+  told-got (At p) k k′ hs hs′ q e = let u : _≡_ {A = Known K} (k, hs) (k′, hs′) = cc in (cc, ap (λ y. y .0) u, ap (λ y. y .1) u)
+  told-got More k k′ hs hs′ q e = never cc
+  told-got (Bad x) k k′ hs hs′ q e = never cc
 
-  same-bad : (end : Passed) (k k′ : K) (hs hs′ : List Header) (x : Error) → _≡_ {A = Heads K} (tell end (k, hs)) (bad (x, (k′, hs′))) → (end ≡ Bad x) × (k ≡ k′) × (hs ≡ hs′)
-  same-bad (At p) k k′ hs hs′ q e = never cc
-  same-bad More k k′ hs hs′ q e = never cc
-  same-bad (Bad x) k k′ hs hs′ q e = let u : _≡_ {A = Error × Known K} (x, (k, hs)) (q, (k′, hs′)) = cc in (ap (λ y. Bad (y .0)) u, ap (λ y. y .1 .0) u, ap (λ y. y .1 .1) u)
+  told-bad : (end : Passed) (k k′ : K) (hs hs′ : List Header) (x : Error) → _≡_ {A = Heads K} (tell end (k, hs)) (bad (x, (k′, hs′))) → (end ≡ Bad x) × (k ≡ k′) × (hs ≡ hs′)
+  told-bad (At p) k k′ hs hs′ q e = never cc
+  told-bad More k k′ hs hs′ q e = never cc
+  told-bad (Bad x) k k′ hs hs′ q e = let u : _≡_ {A = Error × Known K} (x, (k, hs)) (q, (k′, hs′)) = cc in (ap (λ y. Bad (y .0)) u, ap (λ y. y .1 .0) u, ap (λ y. y .1 .1) u)
 
 -- what a call tells of the start line is what the reader knows of it
 pub told-line : {K : Type 0} {a : Heads K} {end : Passed} {line : K} {count : ℕ} {old new : List ℕ} → Told a end line count old new → knownOf a .0 ≡ line
@@ -107,14 +107,14 @@ module _ {L K : Type 0} {Head : List ℕ → L → List Field → Type 0} {Says 
   accept w t l fs e h f =
       let A = X .complete w t l fs h f in
       let r : read s ≡ got (A .k, A .hs) (length w) = ap read e ∙ A .answers in
-      let u = same-got end line (A .k) (given (read s)) (A .hs) (length w) (T .answer ∙ r) in
+      let u = told-got end line (A .k) (given (read s)) (A .hs) (length w) (T .answer ∙ r) in
       (u .0, subst (λ y. Says y line l) (sym e) (subst (λ y. Says (w ++ t) y l) (sym (u .1)) (A .says)), in-slots ∙ ap (fieldsOf s) (u .2) ∙ ap (λ y. fieldsOf y (A .hs)) e ∙ A .holds)
 
   overflow : (w t : List ℕ) (l : L) (fs : List Field) → s ≡ w ++ t → Head w l fs → length old / 4 < length fs → (end ≡ Bad TooManyHeaders) × Says s line l × (fieldsIn s count new ≡ take (length old / 4) fs)
   overflow w t l fs e h f =
       let A = X .too-many w t l fs h f in
       let r : read s ≡ bad (TooManyHeaders, (A .k, A .hs)) = ap read e ∙ A .answers in
-      let u = same-bad end line (A .k) (given (read s)) (A .hs) TooManyHeaders (T .answer ∙ r) in
+      let u = told-bad end line (A .k) (given (read s)) (A .hs) TooManyHeaders (T .answer ∙ r) in
       (u .0, subst (λ y. Says y line l) (sym e) (subst (λ y. Says (w ++ t) y l) (sym (u .1)) (A .says)), in-slots ∙ ap (fieldsOf s) (u .2) ∙ ap (λ y. fieldsOf y (A .hs)) e ∙ A .holds)
 
   -- an error stays, and a head that fits would not be one
@@ -135,7 +135,7 @@ module _ {L K : Type 0} {Head : List ℕ → L → List Field → Type 0} {Says 
           let A = X .too-many w t l fs h (ltb-true (length old / 4) (length fs) f) in
           let b : read (s ++ u) ≡ bad (x, (line, given (read s))) = X .stays s u (x, (line, given (read s))) (read-bad x e) in
           let g : read (s ++ u) ≡ bad (TooManyHeaders, (A .k, A .hs)) = ap read i ∙ A .answers in
-          let v = same-bad (Bad x) line (A .k) (given (read s)) (A .hs) TooManyHeaders (sym b ∙ g) in
+          let v = told-bad (Bad x) line (A .k) (given (read s)) (A .hs) TooManyHeaders (sym b ∙ g) in
           other (bad-same (v .0))
 
   waits : end ≡ More → (w t : List ℕ) (l : L) (fs : List Field) → s ≡ w ++ t → Head w l fs → ⊥

@@ -5,8 +5,9 @@ use mathlib.Core.Path.{_≡_, refl, sym, ap, _∙_}
 use mathlib.Core.List.{List, [], _∷_, _++_}
 use mathlib.Core.Bool.{Bool, true, false}
 use lib.ListN.{length}
-use Rattle.reader.specs.Machine.{Run, more, gave, refused, Step, run}
-use Rattle.reader.specs.Branch.{Branch, fresh, ran, branch, run-fresh-one, run-fresh-other}
+use Rattle.reader.specs.Machine.{gave, Step, run}
+use Rattle.reader.specs.Lifted.{ran, ran-gave}
+use Rattle.reader.specs.Branch.{Branch, fresh, branch, run-fresh-one, run-fresh-other}
 use Rattle.reader.specs.Tests.{never}
 use Rattle.exact.specs.Exact.{Relation, Part, Exact}
 
@@ -14,12 +15,6 @@ use Rattle.exact.specs.Exact.{Relation, Part, Exact}
 pub data Forks {A : Type 0} (test : ℕ → Bool) (G H : Relation A) (p : ℕ) (w : List ℕ) (a : A) (rest : List ℕ) : Type 0 where
   one : (b : ℕ) (bs : List ℕ) → w ++ rest ≡ b ∷ bs → test b ≡ true → G p w a rest → Forks test G H p w a rest
   other : (b : ℕ) (bs : List ℕ) → w ++ rest ≡ b ∷ bs → test b ≡ false → H p w a rest → Forks test G H p w a rest
-
--- an answer of a run in other states
-ran-gave : {S T A F : Type 0} (f : S → T) (r : Run S A F) {a : A} {q : ℕ} → ran f r ≡ gave a q → r ≡ gave a q
-ran-gave f (more s) e = never cc
-ran-gave f (gave b i) e = cc
-ran-gave f (refused x i) e = never cc
 
 module _ {S T A F : Type 0} (test : ℕ → Bool) (m : Step S A F) (s₀ : S) (n : Step T A F) (t₀ : T) {G H : Relation A} (M : Exact m s₀ G) (N : Exact n t₀ H) where
   sound-fork : (b : ℕ) (bs : List ℕ) (p : ℕ) (a : A) (q : ℕ) → run (branch test m s₀ n t₀) fresh p (b ∷ bs) ≡ gave a q → (t : Bool) → test b ≡ t → Part (Forks test G H) p (b ∷ bs) a q

@@ -10,6 +10,8 @@ use Rattle.reader.specs.Seq.{first}
 use Rattle.reader.specs.Answer.{Answer, got, short, bad, answer, lapwise}
 use Rattle.reader.specs.Chain.{nothing}
 use Rattle.reader.specs.Branch.{fresh}
+use Rattle.reader.specs.Known.{knownOf}
+use Rattle.reader.specs.Later.{Later, same, waited, later}
 use Rattle.rules.specs.Rules.{Rules, default}
 use Rattle.parts.specs.declared.Error.{Error}
 use Rattle.parts.specs.declared.Passed.{Passed}
@@ -30,12 +32,10 @@ use Rattle.heads.specs.Calls.{request, response}
 use Rattle.chunks.specs.declared.ChunkSize.{ChunkSize}
 use Rattle.chunks.specs.declared.ChunkSize.the-variants as sizes
 use Rattle.chunks.specs.Chunk.{digits, chunkStep, chunk, sizeOf}
-use Rattle.agreement.specs.Inside.{knownOf}
 use Rattle.agreement.specs.Exactly.{given-over, head-line}
 use Rattle.agreement.specs.Kept.{told-line}
 use Rattle.agreement.specs.Calls.{alone, alone-told}
 use Rattle.onereading.specs.Statements.{SameRequest, SameStatus, NoLine, HeadStays, ChunkStays}
-use Rattle.onereading.specs.Later.{Later, same, waited, later}
 use Rattle.onereading.specs.Lines.{request-line-grows, status-line-grows}
 use Rattle.onereading.specs.Blocks.{Starts, block-grows, slots-same}
 
