@@ -14,7 +14,7 @@ use Rattle.parts.specs.declared.Piece.{Piece}
 use Rattle.parts.specs.Answers.{piece}
 use Rattle.status.specs.Reason.{none, inside, empty, reasonStep}
 use Rattle.grammar.specs.Rows.{Many, none as no-more, more}
-use Rattle.leaves.specs.Rows.{In}
+use Rattle.leaves.specs.Rows.{In, over}
 use Rattle.leaves.specs.Value.{Stop}
 
 -- a text byte that is ASCII, and one that is not
@@ -98,12 +98,10 @@ sound-reason p (b ∷ bs) a q =
 
 -- the other way
 over-plain : (o : ℕ) {w : List ℕ} → Many Plain w → (p : ℕ) (ys : List ℕ) → run reasonStep (inside o false) p (w ++ ys) ≡ run reasonStep (inside o false) (p + length w) ys
-over-plain o no-more p ys = let n : p ≡ p + 0 = omega arith in ap (λ y. run reasonStep (inside o false) y ys) n
-over-plain o (more {b = b} {w = w} h k) p ys = let n : p + 1 + length w ≡ p + suc (length w) = omega arith in rw (h .value, h .ascii) (over-plain o k (p + 1) ys ∙ ap (λ y. run reasonStep (inside o false) y ys) n)
+over-plain o = over reasonStep (inside o false) (λ b h q. rw (h .value, h .ascii))
 
 over-obs : (o : ℕ) {v : List ℕ} → Many (In isValue) v → (p : ℕ) (ys : List ℕ) → run reasonStep (inside o true) p (v ++ ys) ≡ run reasonStep (inside o true) (p + length v) ys
-over-obs o no-more p ys = let n : p ≡ p + 0 = omega arith in ap (λ y. run reasonStep (inside o true) y ys) n
-over-obs o (more {b = b} {w = v} h k) p ys = let n : p + 1 + length v ≡ p + suc (length v) = omega arith in rw h (over-obs o k (p + 1) ys ∙ ap (λ y. run reasonStep (inside o true) y ys) n)
+over-obs o = over reasonStep (inside o true) (λ b h q. rw h)
 
 stop-none : (p : ℕ) (rest : List ℕ) → Stop rest → run reasonStep none p rest ≡ gave (piece p p) p
 stop-none p rest s = rw (s .whole, s .stops)

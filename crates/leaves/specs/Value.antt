@@ -15,7 +15,7 @@ use Rattle.parts.specs.declared.Piece.{Piece}
 use Rattle.parts.specs.Answers.{piece}
 use Rattle.values.specs.Value.{Value, blanks, inside, valueStep, blank-value}
 use Rattle.grammar.specs.Rows.{Many, none, more}
-use Rattle.leaves.specs.Rows.{In}
+use Rattle.leaves.specs.Rows.{In, over}
 
 -- a byte of a value that is no blank
 pub record Solid (b : ℕ) : Type 0 where
@@ -108,13 +108,13 @@ sound-value (b ∷ bs) p a q =
     record { w = []; rest = b ∷ bs; whole = refl; place = omega arith; holds = subst (λ z. Valued p [] z (b ∷ bs)) (ap (λ y. piece y y) n ∙ i) (empty none (record { b = b; ys = bs; whole = refl; stops = v })) }))
 
 -- the other way: what each kind of byte does to the machine
-neither : (s t : Bool) → (s || t) ≡ false → s ≡ false
-neither true t e = e
-neither false t e = refl
+left-false : (s t : Bool) → (s || t) ≡ false → s ≡ false
+left-false true t e = e
+left-false false t e = refl
 
 no-value : (b : ℕ) → isValue b ≡ false → isBlank b ≡ false
 unfolding isValue
-no-value b e = neither (isBlank b) (isTarget b) e
+no-value b e = left-false (isBlank b) (isTarget b) e
 
 stop-blanks : (p : ℕ) (rest : List ℕ) → Stop rest → run valueStep blanks p rest ≡ gave (piece p p) p
 stop-blanks p rest s = rw (s .whole, no-value (s .b) (s .stops), s .stops)
@@ -123,12 +123,10 @@ stop-inside : (o e p : ℕ) (rest : List ℕ) → Stop rest → run valueStep (i
 stop-inside o e p rest s = rw (s .whole, s .stops)
 
 over-blanks : {t : List ℕ} → Many (In isBlank) t → (p : ℕ) (ys : List ℕ) → run valueStep blanks p (t ++ ys) ≡ run valueStep blanks (p + length t) ys
-over-blanks none p ys = let n : p ≡ p + 0 = omega arith in ap (λ y. run valueStep blanks y ys) n
-over-blanks (more {b = b} {w = t} h k) p ys = let n : p + 1 + length t ≡ p + suc (length t) = omega arith in rw h (over-blanks k (p + 1) ys ∙ ap (λ y. run valueStep blanks y ys) n)
+over-blanks = over valueStep blanks (λ b h q. rw h)
 
 over-tail : (o e : ℕ) {t : List ℕ} → Many (In isBlank) t → (p : ℕ) (ys : List ℕ) → run valueStep (inside o e) p (t ++ ys) ≡ run valueStep (inside o e) (p + length t) ys
-over-tail o e none p ys = let n : p ≡ p + 0 = omega arith in ap (λ y. run valueStep (inside o e) y ys) n
-over-tail o e (more {b = b} {w = t} h k) p ys = let n : p + 1 + length t ≡ p + suc (length t) = omega arith in rw (blank-value b h, h) (over-tail o e k (p + 1) ys ∙ ap (λ y. run valueStep (inside o e) y ys) n)
+over-tail o e = over valueStep (inside o e) (λ b h q. rw (blank-value b h, h))
 
 -- up to a byte that is no blank, whatever the end was before
 over-core : (o : ℕ) {m : List ℕ} → Many (In isValue) m → (c : ℕ) → Solid c → (e p : ℕ) (ys : List ℕ) → run valueStep (inside o e) p (m ++ (c ∷ ys)) ≡ run valueStep (inside o (p + length m + 1)) (p + length m + 1) ys

@@ -15,7 +15,7 @@ use Rattle.parts.specs.declared.Piece.{Piece}
 use Rattle.parts.specs.Answers.{piece}
 use Rattle.words.specs.Word.{Word, none, some as inside, wordStep}
 use Rattle.grammar.specs.Rows.{Many, none as no-more, more, Some, some}
-use Rattle.leaves.specs.Rows.{In}
+use Rattle.leaves.specs.Rows.{In, over}
 
 -- the bytes v and the byte that ends them; the answer is the piece of v
 pub record Worded (class : ℕ → Bool) (end : ℕ) (p : ℕ) (w : List ℕ) (a : Piece) (rest : List ℕ) : Type 0 where
@@ -68,8 +68,7 @@ module _ {E : Type 0} (class : ℕ → Bool) (end : ℕ) (x : E) (outside : clas
       (λ _ e. never cc)
 
   complete-inside : (o : ℕ) {v : List ℕ} → Many (In class) v → (p : ℕ) (rest : List ℕ) → run (wordStep class end x) (inside o) p (v ++ (end ∷ rest)) ≡ gave (piece o (p + length v)) (p + length v + 1)
-  complete-inside o no-more p rest = let n : p ≡ p + 0 = omega arith in rw (outside, eq-eqb end end refl) (ap (λ y. gave (piece o y) (y + 1)) n)
-  complete-inside o (more {b = b} {w = v} h m) p rest = let n : p + 1 + length v ≡ p + suc (length v) = omega arith in rw h (complete-inside o m (p + 1) rest ∙ ap (λ y. gave (piece o y) (y + 1)) n)
+  complete-inside o k p rest = over (wordStep class end x) (inside o) (λ b h q. rw h) k p (end ∷ rest) ∙ rw (outside, eq-eqb end end refl)
 
   complete-some : {v : List ℕ} → Some (In class) v → (p : ℕ) (rest : List ℕ) → run (wordStep class end x) none p (v ++ (end ∷ rest)) ≡ gave (piece p (p + length v)) (p + length v + 1)
   complete-some (some {b = b} {w = v} h m) p rest = let n : p + 1 + length v ≡ p + suc (length v) = omega arith in rw h (complete-inside p m (p + 1) rest ∙ ap (λ y. gave (piece p y) (y + 1)) n)
