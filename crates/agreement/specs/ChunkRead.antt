@@ -10,8 +10,9 @@ use borrow.Author.Tests.{ne-eqb, lt-ltb}
 use Rattle.reader.specs.Machine.{Run, gave, run}
 use Rattle.octets.specs.Grammar.{blank}
 use Rattle.octets.specs.Grammar as bytes
-use Rattle.octets.specs.Class.{among, within, isDigit, isHexDigit, isBlank}
+use Rattle.octets.specs.Class.{within, isDigit, isHexDigit}
 use Rattle.octets.specs.Ties.{hex-digit-is-HEXDIG, blank-is-blank}
+use Rattle.octets.specs.Outside.{cr-no-blank, semicolon-no-blank, cr-no-digit, semicolon-no-digit}
 use Rattle.rules.specs.Rules.{default}
 use Rattle.grammar.specs.Rows.{Many, none, more}
 use Rattle.grammar.specs.Fields.{OWS}
@@ -43,14 +44,6 @@ over-blanks k v = over (chunkStep default) (blanks v) (λ b h q. rw (blank-is-bl
 over-extension : {w : List ℕ} → Many NoCR w → (v p : ℕ) (ys : List ℕ) → from (extension v) p (w ++ ys) ≡ from (extension v) (p + length w) ys
 over-extension k v = over (chunkStep default) (extension v) (λ b h q. rw (ne-eqb b 13 h)) k
 
-cr-no-blank : isBlank 13 ≡ false
-unfolding isBlank among
-cr-no-blank = refl
-
-semicolon-no-blank : isBlank 59 ≡ false
-unfolding isBlank among
-semicolon-no-blank = refl
-
 ends-blanks : (v p : ℕ) (rest : List ℕ) → from (blanks v) p (CRLF ++ rest) ≡ gave v (p + 2)
 ends-blanks v p rest = let q : p + 1 + 1 ≡ p + 2 = omega arith in rw (cr-no-blank, q)
 
@@ -68,14 +61,6 @@ loose-ends (extended {o = o} {w = w} k e) v p rest =
 -- a byte that is no digit is read as behind the digits
 digits-out : (k v p b : ℕ) (bs : List ℕ) → isHexDigit b ≡ false → from (digits k v) p (b ∷ bs) ≡ from (blanks v) p (b ∷ bs)
 digits-out k v p b bs h = rw h
-
-cr-no-digit : isHexDigit 13 ≡ false
-unfolding isHexDigit isDigit within
-cr-no-digit = refl
-
-semicolon-no-digit : isHexDigit 59 ≡ false
-unfolding isHexDigit isDigit within
-semicolon-no-digit = refl
 
 blank-no-digit : {b : ℕ} → blank b → isHexDigit b ≡ false
 unfolding isHexDigit isDigit within

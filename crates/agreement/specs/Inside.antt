@@ -12,6 +12,7 @@ use Rattle.reader.specs.Chain.{nothing, reads, ended}
 use Rattle.reader.specs.Tests.{never}
 use Rattle.exact.specs.Exact.{Relation, Exact}
 use Rattle.octets.specs.Class.{isToken}
+use Rattle.octets.specs.Outside.{space-no-token}
 use Rattle.rules.specs.Rules.{Rules, default}
 use Rattle.grammar.specs.Rows.{Many, none}
 use Rattle.grammar.specs.Message.{method, request-target, plain-text}
@@ -34,7 +35,6 @@ use Rattle.statusline.specs.StatusLine as statuses
 use Rattle.leaves.specs.Word.{Worded, exact-word}
 use Rattle.leaves.specs.Target.{Targeted, exact-target}
 use Rattle.leaves.specs.Reason.{Reasoned, plain, obsolete, exact-reason}
-use Rattle.agreement.specs.StartLine.{no-space}
 use Rattle.agreement.specs.Places.{held, at-drop, at-as, at-first, held-at}
 use Rattle.agreement.specs.Rows.{many-as, tokens}
 use Rattle.agreement.specs.Starts.{default-fixed, target-derived, plain-is}
@@ -76,7 +76,7 @@ module _ (r : Rules) (z : List ℕ) where
   target-in k q h = chain-holds In k (requests.withTarget k) h (requests.fromVersion r z) (target z q) (λ t i e. version-in (requests.withTarget k t) i (record { method = h .method; target = piece-in exact-target (request-target default) target-such z q t i e }))
 
   method-in : (k : RequestLine) (q : ℕ) → In k → In (knownOf (requests.fromMethod r z k q))
-  method-in k q h = chain-holds In k (requests.withMethod k) h (requests.fromTarget r z) (word isToken 32 Token z q) (λ m i e. target-in (requests.withMethod k m) i (record { method = piece-in (exact-word isToken 32 Token no-space) method word-such z q m i e; target = h .target }))
+  method-in k q h = chain-holds In k (requests.withMethod k) h (requests.fromTarget r z) (word isToken 32 Token z q) (λ m i e. target-in (requests.withMethod k m) i (record { method = piece-in (exact-word isToken 32 Token space-no-token) method word-such z q m i e; target = h .target }))
 
   pub request-line-in : In (knownOf (requests.requestLine r z 0))
   request-line-in =

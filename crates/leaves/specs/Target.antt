@@ -4,7 +4,7 @@ use Prim.Native.Nat.{ℕ, suc, _+_}
 use native.Mathlib.Omega.{arith}
 use mathlib.Core.Path.{_≡_, refl, sym, ap, _∙_}
 use mathlib.Core.List.{List, [], _∷_, _++_, append-assoc}
-use mathlib.Core.Bool.{true, false}
+use mathlib.Core.Bool.{true}
 use lib.Dec.{eqb}
 use lib.ListN.{length, length-append}
 use borrow.Author.Tests.{eqb-true}
@@ -12,7 +12,8 @@ use Rattle.reader.specs.Machine.{Move, gave, more as wants, after, run}
 use Rattle.reader.specs.Laws.{resume}
 use Rattle.reader.specs.Tests.{split, never}
 use Rattle.exact.specs.Exact.{Part, Exact}
-use Rattle.octets.specs.Class.{within, isTarget}
+use Rattle.octets.specs.Class.{isTarget}
+use Rattle.octets.specs.Outside.{space-no-target}
 use Rattle.utf8.specs.Reader.{machine, whole, utf8}
 use Rattle.parts.specs.declared.Error.{Error}
 use Rattle.parts.specs.declared.Piece.{Piece}
@@ -75,12 +76,8 @@ sound-target p (b ∷ bs) a q =
     (λ h e. whole-target p b bs a q h (sound-inside p bs (feed (wants []) p b) (p + 1) a q e))
     (λ _ e. never cc)
 
-no-space : isTarget 32 ≡ false
-unfolding isTarget within
-no-space = refl
-
 complete-inside : (o : ℕ) {v : List ℕ} → Many (In isTarget) v → (u : Utf8) (p : ℕ) (rest : List ℕ) → whole (resume machine u p v) ≡ true → run targetStep (inside o u) p (v ++ (32 ∷ rest)) ≡ gave (piece o (p + length v)) (p + length v + 1)
-complete-inside o no-more u p rest t = let n : p ≡ p + 0 = omega arith in let g : whole u ≡ true = ap whole (sym (resume-none u p)) ∙ t in rw (no-space, g) (ap (λ y. gave (piece o y) (y + 1)) n)
+complete-inside o no-more u p rest t = let n : p ≡ p + 0 = omega arith in let g : whole u ≡ true = ap whole (sym (resume-none u p)) ∙ t in rw (space-no-target, g) (ap (λ y. gave (piece o y) (y + 1)) n)
 complete-inside o (more {b = b} {w = v} h m) u p rest t = let n : p + 1 + length v ≡ p + suc (length v) = omega arith in rw h (complete-inside o m (feed u p b) (p + 1) rest (rw (resume-fed u p b v) t) ∙ ap (λ y. gave (piece o y) (y + 1)) n)
 
 complete-some : {v : List ℕ} → Some (In isTarget) v → (p : ℕ) (rest : List ℕ) → utf8 v ≡ true → run targetStep none p (v ++ (32 ∷ rest)) ≡ gave (piece p (p + length v)) (p + length v + 1)
