@@ -4,6 +4,7 @@ use Prim.Native.Nat.{ℕ}
 use mathlib.Core.Path.{_≡_, refl, sym, ap, subst, _∙_}
 use mathlib.Core.List.{List, _++_, append-assoc}
 use mathlib.Core.Bool.{_&&_, and-false}
+use Rattle.reader.specs.Tests.{clash}
 use Rattle.rules.specs.Rules.{Rules}
 use Rattle.grammar.specs.Message.{space, empty-lines, line-end, Version, HTTP-version, one-zero, one-one, status-line}
 use Rattle.grammar.specs.Message as grammar
@@ -14,7 +15,7 @@ use Rattle.leaves.specs.Status.{Spaced}
 use Rattle.leaves.specs.Status as statuses
 use Rattle.agreement.specs.StartLine.{StatusLined}
 use Rattle.agreement.specs.Places.{held, At, at-as, at-first, at-second}
-use Rattle.agreement.specs.Starts.{Fixed, clash, version-derived, version-read, code-derived, code-read}
+use Rattle.agreement.specs.Starts.{Fixed, version-derived, version-read, code-derived, code-read}
 use Rattle.agreement.specs.Steps.{passed-is, apart, together, Started, LineRead}
 use Rattle.agreement.specs.Known.{StatusSays}
 use Rattle.agreement.specs.Tail.{parts-line, line-parts, tail-derived, tail-read}

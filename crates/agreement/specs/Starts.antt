@@ -2,10 +2,11 @@
 -- Assumes nothing.
 use Prim.Native.Nat.{ℕ, _+_, _-_, _*_}
 use native.Mathlib.Omega.{arith}
-use mathlib.Core.Path.{_≡_, refl, sym, ap, subst, _∙_}
+use mathlib.Core.Path.{_≡_, refl, sym, ap, subst}
 use mathlib.Core.Logic.{_⊎_, inl, inr}
 use mathlib.Core.List.{List, [], _∷_, _++_}
-use mathlib.Core.Bool.{Bool, true, false, false≢true}
+use mathlib.Core.Bool.{true}
+use Rattle.reader.specs.Tests.{clash}
 use Rattle.octets.specs.Grammar.{Range, DIGIT, VCHAR, obs-text, field-vchar, blank, text}
 use Rattle.octets.specs.Grammar as bytes
 use Rattle.octets.specs.Class.{isTarget, isValue, isAscii}
@@ -35,9 +36,6 @@ pub record Fixed (r : Rules) : Type 0 where
 
 pub default-fixed : Fixed default
 default-fixed = record { any-target = refl; known-versions = refl; any-code = refl; obs-reason = refl }
-
-pub clash : {t : Bool} → t ≡ true → t ≡ false → ⊥
-clash h k = false≢true (sym k ∙ h)
 
 -- visible characters are UTF-8
 visible-utf8 : {w : List ℕ} → Many VCHAR w → UTF8-octets w

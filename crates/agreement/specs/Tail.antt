@@ -5,7 +5,7 @@ use mathlib.Core.Path.{_≡_, refl, sym, subst}
 use mathlib.Core.List.{List, [], _∷_, _++_, append-assoc, append-nil}
 use mathlib.Core.Bool.{true, false}
 use lib.ListN.{length}
-use Rattle.reader.specs.Tests.{never}
+use Rattle.reader.specs.Tests.{clash, never}
 use Rattle.octets.specs.Class.{isValue}
 use Rattle.octets.specs.Outside.{differs, cr-no-value, lf-no-value}
 use Rattle.rules.specs.Rules.{Rules}
@@ -20,7 +20,7 @@ use Rattle.leaves.specs.BehindCode as behind
 use Rattle.leaves.specs.Reason.{Reasoned, plain, obsolete}
 use Rattle.agreement.specs.Places.{held, At, at-first, at-second, held-at}
 use Rattle.agreement.specs.FieldLine.{end-stops}
-use Rattle.agreement.specs.Starts.{Fixed, clash, reason-plain, reason-obsolete, first-obsolete, plain-read}
+use Rattle.agreement.specs.Starts.{Fixed, reason-plain, reason-obsolete, first-obsolete, plain-read}
 
 -- the bytes behind a code up to the line's end, and the reason
 pub data Tail (r : Rules) : List ℕ → List ℕ → Type 0 where

@@ -9,7 +9,7 @@ use lib.Dec.{eqb}
 use lib.ListN.{length}
 use borrow.Author.Tests.{eqb-false}
 use Rattle.reader.specs.Machine.{refused, run}
-use Rattle.reader.specs.Tests.{never}
+use Rattle.reader.specs.Tests.{clash, never}
 use Rattle.octets.specs.Grammar.{HEXDIG, blank, tchar}
 use Rattle.octets.specs.Grammar as bytes
 use Rattle.octets.specs.Class.{among, within, isDigit, isHexDigit, isBlank, isToken}
@@ -21,7 +21,6 @@ use Rattle.grammar.specs.Message.{CRLF}
 use Rattle.grammar.specs.Chunked.{hexadecimal, chunk-size, chunk-ext, behind-size, chunk-line}
 use Rattle.grammar.specs.Chunked as chunked
 use Rattle.chunks.specs.Chunk.{digits, chunkStep}
-use Rattle.agreement.specs.Starts.{clash}
 use Rattle.agreement.specs.ChunkRead.{chunk-read}
 use Rattle.leniency.specs.Text.{ascii}
 use Rattle.leniency.specs.Strict.{hexadecimal-row, size-row}

@@ -7,7 +7,7 @@ use mathlib.Core.List.{List, [], _∷_, _++_, append-assoc}
 use mathlib.Core.Bool.{true, false}
 use lib.Dec.{eqb}
 use borrow.Author.Tests.{eqb-false}
-use Rattle.reader.specs.Tests.{never}
+use Rattle.reader.specs.Tests.{clash, never}
 use Rattle.octets.specs.Grammar.{DIGIT}
 use Rattle.octets.specs.Grammar as bytes
 use Rattle.octets.specs.Class.{within, isToken}
@@ -19,7 +19,6 @@ use Rattle.grammar.specs.Rows.{none, more, some}
 use Rattle.grammar.specs.Fields.{Field}
 use Rattle.grammar.specs.Message.{line-end, crlf, lf, empty-lines, one-zero, other, request-target, RequestLine, request-line, status-code, reason-phrase, StatusLine, status-line, field-line, header-block, head, request-head, response-head}
 use Rattle.grammar.specs.Message as grammar
-use Rattle.agreement.specs.Starts.{clash}
 use Rattle.agreement.specs.Tail.{Tail}
 use Rattle.agreement.specs.Tail as tails
 use Rattle.leniency.specs.Text.{ascii}

@@ -30,13 +30,12 @@ module _ {S T A F : Type 0} (test : ℕ → Bool) (m : Step S A F) (s₀ : S) (n
   pub run-fresh-other : (b : ℕ) (bs : List ℕ) (p : ℕ) → test b ≡ false → run branch fresh p (b ∷ bs) ≡ ran other (run n t₀ p (b ∷ bs))
   run-fresh-other b bs p e = run-entered other n branch (λ t p b. refl) fresh t₀ b bs p (rw e)
 
-  module _ {U : Type 0} (known : Branch S T → U) where
-    module _ (xs : List ℕ) (i : ℕ) where
-      pub branch-one : i < length xs → test (getD xs i 0) ≡ true → answer known (runAt branch fresh xs i) ≡ answer (λ s. known (one s)) (runAt m s₀ xs i)
-      branch-one h e = rw (drop-in xs i h) (ap (answer known) (run-fresh-one (getD xs i 0) (drop (i + 1) xs) i e) ∙ answer-ran one known (run m s₀ i (getD xs i 0 ∷ drop (i + 1) xs)))
+  module _ {U : Type 0} (known : Branch S T → U) (xs : List ℕ) (i : ℕ) where
+    pub branch-one : i < length xs → test (getD xs i 0) ≡ true → answer known (runAt branch fresh xs i) ≡ answer (λ s. known (one s)) (runAt m s₀ xs i)
+    branch-one h e = rw (drop-in xs i h) (ap (answer known) (run-fresh-one (getD xs i 0) (drop (i + 1) xs) i e) ∙ answer-ran one known (run m s₀ i (getD xs i 0 ∷ drop (i + 1) xs)))
 
-      pub branch-other : i < length xs → test (getD xs i 0) ≡ false → answer known (runAt branch fresh xs i) ≡ answer (λ t. known (other t)) (runAt n t₀ xs i)
-      branch-other h e = rw (drop-in xs i h) (ap (answer known) (run-fresh-other (getD xs i 0) (drop (i + 1) xs) i e) ∙ answer-ran other known (run n t₀ i (getD xs i 0 ∷ drop (i + 1) xs)))
+    pub branch-other : i < length xs → test (getD xs i 0) ≡ false → answer known (runAt branch fresh xs i) ≡ answer (λ t. known (other t)) (runAt n t₀ xs i)
+    branch-other h e = rw (drop-in xs i h) (ap (answer known) (run-fresh-other (getD xs i 0) (drop (i + 1) xs) i e) ∙ answer-ran other known (run n t₀ i (getD xs i 0 ∷ drop (i + 1) xs)))
 
-      pub branch-none : length xs ≤ i → answer known (runAt branch fresh xs i) ≡ short (known fresh)
-      branch-none h = ap (answer known) (run-out branch fresh xs i h)
+    pub branch-none : length xs ≤ i → answer known (runAt branch fresh xs i) ≡ short (known fresh)
+    branch-none h = ap (answer known) (run-out branch fresh xs i h)
