@@ -5,6 +5,7 @@ use native.Mathlib.Omega.{arith}
 use mathlib.Core.Path.{_≡_, refl, sym, ap, subst, _∙_}
 use mathlib.Core.List.{List, [], _++_}
 use lib.ListN.{length, take}
+use Rattle.reader.specs.Tests.{never}
 use Rattle.reader.specs.Seq.{first}
 use Rattle.reader.specs.Answer.{got, short, bad, answered, bad-stays, lapwise}
 use Rattle.reader.specs.Branch.{fresh}
@@ -73,12 +74,12 @@ headersOf n z = alone (block default n [] z 0)
 
 got-block : (b : Blocks) (k : Unit {0}) (hs : List Header) (q : ℕ) → _≡_ {A = Heads (Unit {0})} (alone b) (got (k, hs) q) → b ≡ got hs q
 got-block (got x p) k hs q e = let u : _≡_ {A = Known (Unit {0})} (tt, x) (k, hs) = cc in let v : p ≡ q = cc in rw v (ap (λ y. got (y .1) q) u)
-got-block (short x) k hs q e = let n : _≡_ {A = ℕ} 0 1 = cc in absurd (omega arith)
-got-block (bad x) k hs q e = let n : _≡_ {A = ℕ} 0 1 = cc in absurd (omega arith)
+got-block (short x) k hs q e = never cc
+got-block (bad x) k hs q e = never cc
 
 bad-block : (b : Blocks) (x : Error × Known (Unit {0})) → _≡_ {A = Heads (Unit {0})} (alone b) (bad x) → b ≡ bad (x .0, x .1 .1)
-bad-block (got y p) x e = let n : _≡_ {A = ℕ} 0 1 = cc in absurd (omega arith)
-bad-block (short y) x e = let n : _≡_ {A = ℕ} 0 1 = cc in absurd (omega arith)
+bad-block (got y p) x e = never cc
+bad-block (short y) x e = never cc
 bad-block (bad y) x e = let u : _≡_ {A = Error × Known (Unit {0})} (y .0, (tt, y .1)) x = cc in ap (λ v. bad (v .0, v .1 .1)) u
 
 module _ (n : ℕ) where

@@ -1,12 +1,12 @@
 -- What a chunk size line's call answers keeps its promise.
 -- Assumes nothing.
 use Prim.Native.Nat.{ℕ}
-use native.Mathlib.Omega.{arith}
 use mathlib.Core.Path.{_≡_, sym, ap, _∙_}
 use mathlib.Core.List.{List, _++_}
 use lib.ListN.{length}
 use Rattle.reader.specs.Answer.{got, short, bad, answer, answered, bad-stays}
 use Rattle.reader.specs.Chain.{nothing}
+use Rattle.reader.specs.Tests.{never}
 use Rattle.rules.specs.Rules.{default}
 use Rattle.chunks.specs.Chunk.{digits, chunkStep, chunk, sizeOf}
 use Rattle.chunks.specs.declared.ChunkSize.{ChunkSize}
@@ -17,8 +17,8 @@ use Rattle.agreement.specs.ChunkRead.{from, chunk-read}
 
 size-got : (r : ChunkSize) {n q : ℕ} → sizeOf r ≡ got n q → r ≡ sizes.Complete q n
 size-got (sizes.Complete q n) e = cc
-size-got sizes.Incomplete e = let z : _≡_ {A = ℕ} 0 1 = cc in absurd (omega arith)
-size-got sizes.Invalid e = let z : _≡_ {A = ℕ} 0 1 = cc in absurd (omega arith)
+size-got sizes.Incomplete e = never cc
+size-got sizes.Invalid e = never cc
 
 module _ {s : List ℕ} {r : ChunkSize} (T : sizeOf r ≡ chunk default s) where
   pub chunk-promise : ChunkPromise s r
@@ -29,8 +29,8 @@ module _ {s : List ℕ} {r : ChunkSize} (T : sizeOf r ≡ chunk default s) where
         let b : answer nothing (from (digits 0 0) 0 (s ++ u)) ≡ bad tt = bad-stays nothing (chunkStep default) s u (digits 0 0) 0 (sym T ∙ ap sizeOf e) in
         let g : answer nothing (from (digits 0 0) 0 (s ++ u)) ≡ got n (length w) = ap (λ y. answer nothing (from (digits 0 0) 0 y)) i ∙ ap (answer nothing) (chunk-read l t) in
         let c = sym b ∙ g in
-        let z : _≡_ {A = ℕ} 0 1 = cc in omega arith;
+        never cc;
     incomplete = λ e w t n i l.
         let g : short tt ≡ got n (length w) = sym (ap sizeOf e) ∙ T ∙ ap (λ y. answer nothing (from (digits 0 0) 0 y)) i ∙ ap (answer nothing) (chunk-read l t) in
-        let z : _≡_ {A = ℕ} 0 1 = cc in omega arith;
+        never cc;
   }

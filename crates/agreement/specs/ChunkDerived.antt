@@ -9,11 +9,11 @@ use lib.Dec.{eqb, ltb}
 use lib.ListN.{length}
 use borrow.Author.Tests.{eqb-true, eqb-false, ltb-true}
 use Rattle.reader.specs.Machine.{Move, gave, after, run}
-use Rattle.reader.specs.Tests.{split}
+use Rattle.reader.specs.Tests.{split, never}
 use Rattle.octets.specs.Grammar.{HEXDIG}
 use Rattle.octets.specs.Grammar as bytes
 use Rattle.octets.specs.Class.{isHexDigit, isBlank}
-use Rattle.octets.proofs.Ties.{hex-digit-is-HEXDIG, blank-is-blank}
+use Rattle.octets.specs.Ties.{hex-digit-is-HEXDIG, blank-is-blank}
 use Rattle.rules.specs.Rules.{default}
 use Rattle.grammar.specs.Rows.{Many, none, more}
 use Rattle.grammar.specs.Message.{CRLF}
@@ -47,11 +47,11 @@ record Ended (v : ℕ) (w : List ℕ) (p : ℕ) (xs : List ℕ) (n q : ℕ) : Ty
   place : q ≡ p + length w
 
 sound-cr : (v p : ℕ) (xs : List ℕ) (n q : ℕ) → run (chunkStep default) (cr v) p xs ≡ gave n q → Ended v (0x0A ∷ []) p xs n q
-sound-cr v p [] n q = λ e. let z : _≡_ {A = ℕ} 0 1 = cc in absurd (omega arith)
+sound-cr v p [] n q = λ e. never cc
 sound-cr v p (b ∷ bs) n q =
     split (λ u. after u p (λ s. run (chunkStep default) s (p + 1) bs) ≡ gave n q → Ended v (0x0A ∷ []) p (b ∷ bs) n q) (eqb b 10)
     (λ t e. let i : v ≡ n = cc in let j : p + 1 ≡ q = cc in record { rest = bs; whole = ap (λ y. y ∷ bs) (eqb-true b 10 t); size = sym i; place = sym j })
-    (λ t e. let z : _≡_ {A = ℕ} 0 1 = cc in absurd (omega arith))
+    (λ t e. never cc)
 
 behind-cr : {v p b : ℕ} {bs : List ℕ} {n q : ℕ} → eqb b 13 ≡ true → Ended v (0x0A ∷ []) (p + 1) bs n q → Ended v CRLF p (b ∷ bs) n q
 behind-cr {b = b} {bs = bs} t E = record { rest = E .rest; whole = ap (λ y. y ∷ bs) (eqb-true b 13 t) ∙ ap (λ y. 0x0D ∷ y) (E .whole); size = E .size; place = omega (arith, E .place) }
@@ -65,7 +65,7 @@ one-before : {v p b : ℕ} {w bs : List ℕ} {n q : ℕ} → Ended v w (p + 1) b
 one-before {b = b} E = record { rest = E .rest; whole = ap (λ y. b ∷ y) (E .whole); size = E .size; place = omega (arith, E .place) }
 
 sound-extension : (v : ℕ) (xs : List ℕ) (p n q : ℕ) → run (chunkStep default) (extension v) p xs ≡ gave n q → Extended v p xs n q
-sound-extension v [] p n q = λ e. let z : _≡_ {A = ℕ} 0 1 = cc in absurd (omega arith)
+sound-extension v [] p n q = λ e. never cc
 sound-extension v (b ∷ bs) p n q =
     let ih = sound-extension v bs (p + 1) n q in
     split (λ u. after u p (λ s. run (chunkStep default) s (p + 1) bs) ≡ gave n q → Extended v p (b ∷ bs) n q) (eqb b 13)
@@ -88,10 +88,10 @@ behind-step v b bs p n q ih =
     split G (isBlank b) (λ t e. let k = ih e in record { x = b ∷ k .x; kind = blank-before (blank-is-blank b .0 t) (k .kind); ends = one-before (k .ends) })
     (λ _. split G (eqb b 59) (λ t e. semicolon-before t (sound-extension v bs (p + 1) n q e))
     (λ _. split G (eqb b 13) (λ t e. record { x = []; kind = blank-only none; ends = behind-cr t (sound-cr v (p + 1) bs n q e) })
-    (λ t e. let z : _≡_ {A = ℕ} 0 1 = cc in absurd (omega arith))))
+    (λ t e. never cc)))
 
 sound-blanks : (v : ℕ) (xs : List ℕ) (p n q : ℕ) → run (chunkStep default) (blanks v) p xs ≡ gave n q → Behind v p xs n q
-sound-blanks v [] p n q = λ e. let z : _≡_ {A = ℕ} 0 1 = cc in absurd (omega arith)
+sound-blanks v [] p n q = λ e. never cc
 sound-blanks v (b ∷ bs) p n q = behind-step v b bs p n q (sound-blanks v bs (p + 1) n q)
 
 -- k digits have been read, and d more stand here
@@ -112,12 +112,12 @@ no-digits : {k v p : ℕ} {xs : List ℕ} {n q : ℕ} → k ≤ 16 → Behind v 
 no-digits {v = v} l B = record { d = []; x = B .x; digits = subst (λ y. Onto v [] y) (sym (B .ends .size)) last; most = omega (arith, l); kind = B .kind; rest = B .ends .rest; whole = B .ends .whole; place = B .ends .place }
 
 sound-digits : (k v : ℕ) (xs : List ℕ) (p n q : ℕ) → k ≤ 16 → run (chunkStep default) (digits k v) p xs ≡ gave n q → Counted k v p xs n q
-sound-digits k v [] p n q l = λ e. let z : _≡_ {A = ℕ} 0 1 = cc in absurd (omega arith)
+sound-digits k v [] p n q l = λ e. never cc
 sound-digits k v (b ∷ bs) p n q l =
     let G : Move Chunk ℕ (Unit {0}) → Type 0 = λ u. after u p (λ s. run (chunkStep default) s (p + 1) bs) ≡ gave n q → Counted k v p (b ∷ bs) n q in
     let ih : k < 16 → run (chunkStep default) (digits (k + 1) (v * 16 + worth b)) (p + 1) bs ≡ gave n q → Counted (k + 1) (v * 16 + worth b) (p + 1) bs n q = λ m. sound-digits (k + 1) (v * 16 + worth b) bs (p + 1) n q (omega (arith, m)) in
     split G (isHexDigit b)
-    (λ h. split G (ltb k 16) (λ t e. digit-before h (ih (ltb-true k 16 t) e)) (λ t e. let z : _≡_ {A = ℕ} 0 1 = cc in absurd (omega arith)))
+    (λ h. split G (ltb k 16) (λ t e. digit-before h (ih (ltb-true k 16 t) e)) (λ t e. never cc))
     (λ h e. no-digits l (behind-step v b bs p n q (sound-blanks v bs (p + 1) n q) e))
 
 -- no digit at all is the named leniency

@@ -1,6 +1,6 @@
 -- Every chunk size line is accepted by its reader, whatever follows it, with the number that its digits write.
 -- Assumes nothing.
-use Prim.Native.Nat.{ℕ, suc, _+_, _*_, _≤_}
+use Prim.Native.Nat.{ℕ, _+_, _*_, _≤_}
 use native.Mathlib.Omega.{arith}
 use mathlib.Core.Path.{_≡_, refl, sym, ap, _∙_}
 use mathlib.Core.List.{List, [], _∷_, _++_, append-assoc}
@@ -10,8 +10,9 @@ use borrow.Author.Tests.{ne-eqb, lt-ltb}
 use Rattle.reader.specs.Machine.{Run, gave, run}
 use Rattle.octets.specs.Grammar.{blank}
 use Rattle.octets.specs.Grammar as bytes
-use Rattle.octets.specs.Class.{among, within, isDigit, isHexDigit, isBlank}
-use Rattle.octets.proofs.Ties.{hex-digit-is-HEXDIG, blank-is-blank}
+use Rattle.octets.specs.Class.{within, isDigit, isHexDigit}
+use Rattle.octets.specs.Ties.{hex-digit-is-HEXDIG, blank-is-blank}
+use Rattle.octets.specs.Outside.{cr-no-blank, semicolon-no-blank, cr-no-digit, semicolon-no-digit}
 use Rattle.rules.specs.Rules.{default}
 use Rattle.grammar.specs.Rows.{Many, none, more}
 use Rattle.grammar.specs.Fields.{OWS}
@@ -19,6 +20,7 @@ use Rattle.grammar.specs.Message.{CRLF}
 use Rattle.grammar.specs.Chunked.{semicolon, hexadecimal, chunk-size, chunk-line}
 use Rattle.grammar.specs.Chunked as grammar
 use Rattle.chunks.specs.Chunk.{worth, Chunk, digits, blanks, extension, chunkStep}
+use Rattle.leaves.specs.Rows.{over}
 use Rattle.agreement.specs.Loose.{NoCR, Loose, blank-only, extended, loose-read}
 use Rattle.agreement.specs.ChunkDerived.{worth-is}
 
@@ -37,20 +39,10 @@ over-digits (grammar.hexadecimal.more {w = w} {n = n} {b = b} h d) p ys l =
     (ap (λ y. from (digits y (n * 16 + worth b)) (p + length w + 1) ys) (sym m) ∙ ap (λ y. from (digits (length (w ++ (b ∷ []))) (n * 16 + y)) (p + length w + 1) ys) (sym (worth-is d)) ∙ ap (λ y. from (digits (length (w ++ (b ∷ []))) (n * 16 + grammar.worth d)) y ys) q)
 
 over-blanks : {o : List ℕ} → OWS o → (v p : ℕ) (ys : List ℕ) → from (blanks v) p (o ++ ys) ≡ from (blanks v) (p + length o) ys
-over-blanks none v p ys = let q : p ≡ p + 0 = omega arith in ap (λ y. from (blanks v) y ys) q
-over-blanks (more {b = b} {w = o} h k) v p ys = let q : p + 1 + length o ≡ p + suc (length o) = omega arith in rw (blank-is-blank b .1 h) (over-blanks k v (p + 1) ys ∙ ap (λ y. from (blanks v) y ys) q)
+over-blanks k v = over (chunkStep default) (blanks v) (λ b h q. rw (blank-is-blank b .1 h)) k
 
 over-extension : {w : List ℕ} → Many NoCR w → (v p : ℕ) (ys : List ℕ) → from (extension v) p (w ++ ys) ≡ from (extension v) (p + length w) ys
-over-extension none v p ys = let q : p ≡ p + 0 = omega arith in ap (λ y. from (extension v) y ys) q
-over-extension (more {b = b} {w = w} h k) v p ys = let q : p + 1 + length w ≡ p + suc (length w) = omega arith in rw (ne-eqb b 13 h) (over-extension k v (p + 1) ys ∙ ap (λ y. from (extension v) y ys) q)
-
-cr-no-blank : isBlank 13 ≡ false
-unfolding isBlank among
-cr-no-blank = refl
-
-semicolon-no-blank : isBlank 59 ≡ false
-unfolding isBlank among
-semicolon-no-blank = refl
+over-extension k v = over (chunkStep default) (extension v) (λ b h q. rw (ne-eqb b 13 h)) k
 
 ends-blanks : (v p : ℕ) (rest : List ℕ) → from (blanks v) p (CRLF ++ rest) ≡ gave v (p + 2)
 ends-blanks v p rest = let q : p + 1 + 1 ≡ p + 2 = omega arith in rw (cr-no-blank, q)
@@ -69,14 +61,6 @@ loose-ends (extended {o = o} {w = w} k e) v p rest =
 -- a byte that is no digit is read as behind the digits
 digits-out : (k v p b : ℕ) (bs : List ℕ) → isHexDigit b ≡ false → from (digits k v) p (b ∷ bs) ≡ from (blanks v) p (b ∷ bs)
 digits-out k v p b bs h = rw h
-
-cr-no-digit : isHexDigit 13 ≡ false
-unfolding isHexDigit isDigit within
-cr-no-digit = refl
-
-semicolon-no-digit : isHexDigit 59 ≡ false
-unfolding isHexDigit isDigit within
-semicolon-no-digit = refl
 
 blank-no-digit : {b : ℕ} → blank b → isHexDigit b ≡ false
 unfolding isHexDigit isDigit within

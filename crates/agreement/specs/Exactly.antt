@@ -8,6 +8,8 @@ use lib.ListN.{length, take, length-append}
 use Rattle.reader.specs.Machine.{Step, run, runAt}
 use Rattle.reader.specs.Seq.{first}
 use Rattle.reader.specs.Answer.{Answer, got, short, bad, answer, answered, bad-stays}
+use Rattle.reader.specs.Refusals.{Refuses}
+use Rattle.reader.specs.Known.{knownOf}
 use Rattle.exact.specs.Exact.{Relation, Exact}
 use Rattle.rules.specs.Rules.{Rules}
 use Rattle.grammar.specs.Fields.{Field}
@@ -24,8 +26,7 @@ use Rattle.agreement.specs.Head.{exact-head}
 use Rattle.agreement.specs.Places.{At, at-start, at-as, at-first, at-second, from-at}
 use Rattle.agreement.specs.Fields.{HeaderIs, fields-are, fieldsOf, block-derived, block-read, block-over, few-fields, Each, fields-in}
 use Rattle.agreement.specs.FieldLine.{HeaderIn}
-use Rattle.agreement.specs.Inside.{knownOf}
-use Rattle.agreement.specs.Full.{Refuses, OrdinaryLine, head-full}
+use Rattle.agreement.specs.Full.{OrdinaryLine, head-full}
 use Rattle.agreement.specs.Steps.{passed-is, Started, LineRead}
 
 module _ {L K : Type 0} (Head : List ℕ → L → List Field → Type 0) (Says : List ℕ → K → L → Type 0) (n : ℕ) where

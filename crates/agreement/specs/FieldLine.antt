@@ -4,13 +4,13 @@ use Prim.Native.Nat.{ℕ, _+_, _≤_}
 use native.Mathlib.Omega.{arith}
 use mathlib.Core.Path.{_≡_, refl, sym, ap, subst, _∙_}
 use mathlib.Core.List.{List, _∷_, _++_, append-assoc}
-use mathlib.Core.Bool.{Bool, true, false, _&&_, _||_, false≢true}
-use lib.Dec.{eqb}
+use mathlib.Core.Bool.{Bool, true, false, _&&_, _||_, and-false}
 use lib.ListN.{length, length-append}
-use borrow.Author.Tests.{ne-eqb}
+use Rattle.reader.specs.Tests.{never}
 use Rattle.exact.specs.Branch.{one, other}
-use Rattle.octets.specs.Class.{among, within, isDigit, isToken, isBlank, isTarget, isValue}
-use Rattle.octets.proofs.Ties.{token-is-tchar}
+use Rattle.octets.specs.Class.{isToken}
+use Rattle.octets.specs.Ties.{token-is-tchar}
+use Rattle.octets.specs.Outside.{differs-test, cr-no-token, lf-no-token, cr-no-value, lf-no-value}
 use Rattle.rules.specs.Rules.{Rules}
 use Rattle.grammar.specs.Rows.{some}
 use Rattle.grammar.specs.Fields.{Field}
@@ -38,27 +38,11 @@ pub data LineIs (z : List ℕ) (r : Rules) (w : List ℕ) (k : Kind) : Type 0 wh
 
 -- a line end's first byte ends a value, and is in no token
 pub end-stops : {r : Rules} {e : List ℕ} → line-end r e → (rest : List ℕ) → Stop (e ++ rest)
-unfolding isValue isBlank isTarget among within
-end-stops crlf rest = record { b = 13; ys = 10 ∷ rest; whole = refl; stops = refl }
-end-stops (lf h) rest = record { b = 10; ys = rest; whole = refl; stops = refl }
-
-pub token-not : (b c : ℕ) → isToken c ≡ false → isToken b ≡ true → eqb b c ≡ false
-token-not b c f t = ne-eqb b c (λ e. false≢true (sym (sym t ∙ ap isToken e ∙ f)))
-
-pub no-cr : isToken 13 ≡ false
-unfolding isToken isDigit within among
-no-cr = refl
-
-pub no-lf : isToken 10 ≡ false
-unfolding isToken isDigit within among
-no-lf = refl
-
-pub neither : (t : Bool) → (t && false) ≡ false
-neither true = refl
-neither false = refl
+end-stops crlf rest = record { b = 13; ys = 10 ∷ rest; whole = refl; stops = cr-no-value }
+end-stops (lf h) rest = record { b = 10; ys = rest; whole = refl; stops = lf-no-value }
 
 token-no-end : (r : Rules) (b : ℕ) → isToken b ≡ true → ends r b ≡ false
-token-no-end r b t = rw (token-not b 13 no-cr t, token-not b 10 no-lf t) (neither (r .lf-alone))
+token-no-end r b t = rw (differs-test isToken b 13 cr-no-token t, differs-test isToken b 10 lf-no-token t) (and-false (r .lf-alone))
 
 -- name, colon, OWS, value, OWS, line end, in two ways of grouping
 regroup : (n c o v t e : List ℕ) → (n ++ c) ++ ((o ++ v ++ t) ++ e) ≡ n ++ c ++ o ++ v ++ t ++ e
@@ -142,7 +126,7 @@ kind-value e = cc
 
 -- where a line is a header's, its pieces are those that were read
 pub line-in : {r : Rules} {p : ℕ} {w rest : List ℕ} {h : Header} → Lined r p w (header h) rest → HeaderIn (p + length w) h
-line-in (one b bs e t K) = let n : _≡_ {A = ℕ} 0 1 = cc in absurd (omega arith)
+line-in (one b bs e t K) = never cc
 line-in {p = p} {w = w} {h = h} (other b bs e t K) =
     let S = K .right in
     let same : header h ≡ named (K .a) (S .a) = passed-is (S .right .passes) in

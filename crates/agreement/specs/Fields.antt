@@ -14,7 +14,7 @@ use Rattle.reader.specs.Loop.{Turn, again, done}
 use Rattle.reader.specs.Answer.{Answer, got, short, bad, answer, answered, verdict, retold, rounds}
 use Rattle.reader.specs.Chain.{nothing}
 use Rattle.reader.specs.Branch.{fresh}
-use Rattle.reader.specs.Tests.{split}
+use Rattle.reader.specs.Tests.{split, never}
 use Rattle.exact.specs.Loop.{Laps, last, next}
 use Rattle.rules.specs.Rules.{Rules}
 use Rattle.grammar.specs.Fields.{field-name, field-value, Field}
@@ -57,11 +57,11 @@ Next = Verdict (Turn (List Header) (List Header)) (Error × List Header)
 
 again-is : (t : Bool) (hs hs′ new : List Header) → _≡_ {A = Next} (cond t (pass (again new)) (fail (TooManyHeaders, hs))) (pass (again hs′)) → (t ≡ true) × (new ≡ hs′)
 again-is true hs hs′ new e = (refl, cc)
-again-is false hs hs′ new e = let z : _≡_ {A = ℕ} 0 1 = cc in absurd (omega arith)
+again-is false hs hs′ new e = never cc
 
 never-done : (t : Bool) (hs b new : List Header) → _≡_ {A = Next} (cond t (pass (again new)) (fail (TooManyHeaders, hs))) (pass (done b)) → ⊥
-never-done true hs b new e = let z : _≡_ {A = ℕ} 0 1 = cc in omega arith
-never-done false hs b new e = let z : _≡_ {A = ℕ} 0 1 = cc in omega arith
+never-done true hs b new e = never cc
+never-done false hs b new e = never cc
 
 module _ {z : List ℕ} {r : Rules} {n : ℕ} where
   last-line : (hs : List Header) (w : List ℕ) (b : List Header) (k : Kind) → LineIs z r w k → taken n hs k ≡ pass (done b) → Added z r n hs w b
@@ -75,7 +75,7 @@ module _ {z : List ℕ} {r : Rules} {n : ℕ} where
   next-line : (hs hs′ : List Header) (w v : List ℕ) (b : List Header) (k : Kind) → LineIs z r w k → taken n hs k ≡ pass (again hs′) → Added z r n hs′ v b → Added z r n hs (w ++ v) b
   next-line hs hs′ w v b k (ended e d) t A =
       let t′ : _≡_ {A = Next} (pass (done hs)) (pass (again hs′)) = rw e at t in
-      let z : _≡_ {A = ℕ} 0 1 = cc in absurd (omega arith)
+      never cc
   next-line hs hs′ w v b k (field h l e q s f d) t A =
       let t′ : taken n hs (header h) ≡ pass (again hs′) = rw q at t in
       let u = again-is (ltb (length hs) n) hs hs′ (hs ++ (h ∷ [])) t′ in
@@ -222,7 +222,7 @@ module _ (z : List ℕ) (r : Rules) (n : ℕ) where
       by (line-derived (at-drop z p (P .w) (P .rest) (P .whole) (omega (arith, s, l))) (P .holds))
     where
       by : {w : List ℕ} → LineIs z r w (header h) → HeaderIs z h
-      by (ended k d) = let m : _≡_ {A = ℕ} 0 1 = cc in absurd (omega arith)
+      by (ended k d) = never cc
       by (field g l e k w f d) = subst (HeaderIs z) (sym (header-same k)) (line-field f)
 
   pub fields-are : (hs : List Header) (p : ℕ) → Each (HeaderIs z) hs → Each (HeaderIs z) (given (block r n hs z p))

@@ -1,21 +1,21 @@
 -- TooManyHeaders is answered only where the slots are full.
 -- Assumes nothing.
-use Prim.Native.Nat.{ℕ, _+_, _≤_}
-use native.Mathlib.Omega.{arith}
+use Prim.Native.Nat.{ℕ, _≤_}
 use mathlib.Core.Path.{_≡_, refl, subst}
 use mathlib.Core.List.{List, [], _∷_, _++_}
 use mathlib.Core.Bool.{Bool, true, false, cond, _&&_}
 use lib.Dec.{eqb, ltb}
 use lib.ListN.{length}
 use borrow.Author.Tests.{ltb-false}
-use Rattle.reader.specs.Machine.{Move, keep, give, before, refuse, refused, Step, after, run}
-use Rattle.reader.specs.Judged.{Verdict, pass, fail, given, left, moved, judged}
-use Rattle.reader.specs.Seq.{first, second, onward, cross, seq}
-use Rattle.reader.specs.Loop.{Turn, again, done, turned, loop}
-use Rattle.reader.specs.Branch.{fresh, one, other, lifted, branch}
+use Rattle.reader.specs.Machine.{Step}
+use Rattle.reader.specs.Judged.{Verdict, pass, fail, judged}
+use Rattle.reader.specs.Seq.{first, seq}
+use Rattle.reader.specs.Loop.{Turn, again}
+use Rattle.reader.specs.Branch.{fresh}
 use Rattle.reader.specs.Answer.{bad, answered-bad, lapwise}
 use Rattle.reader.specs.Chain.{part}
-use Rattle.reader.specs.Tests.{split}
+use Rattle.reader.specs.Refusals.{Refusal, Refuses, refused-is, passes, refuses-judged, refuses-seq, refuses-branch, refuses-loop}
+use Rattle.reader.specs.Tests.{split, never}
 use Rattle.octets.specs.Class.{isDigit, isBlank, isToken, isTarget, isValue}
 use Rattle.utf8.specs.Reader.{whole}
 use Rattle.rules.specs.Rules.{Rules}
@@ -41,110 +41,27 @@ use Rattle.statusline.specs.StatusLine as statuses
 use Rattle.heads.specs.Head.{Known, blockOn, headStep, headKnown}
 use Rattle.heads.specs.Head as heads
 
--- what is refused satisfies P
-abbrev pub Refusal : {S A F : Type 0} → (F → Type 0) → Move S A F → Type 0
-Refusal P (keep s) = Unit {0}
-Refusal P (give a) = Unit {0}
-Refusal P (before a) = Unit {0}
-Refusal P (refuse e) = P e
-
-abbrev pub Refuses : {S A F : Type 0} → (F → Type 0) → Step S A F → Type 0
-Refuses {S} P m = (s : S) (p b : ℕ) → Refusal P (m s p b)
-
-module _ {S A F : Type 0} (P : F → Type 0) (m : Step S A F) (R : Refuses P m) where
-  refused-step : (bs : List ℕ) (p : ℕ) (e : F) (q : ℕ) (v : Move S A F) → Refusal P v → ((s : S) → run m s (p + 1) bs ≡ refused e q → P e) → after v p (λ s. run m s (p + 1) bs) ≡ refused e q → P e
-  refused-step bs p e q (keep s) h ih u = ih s u
-  refused-step bs p e q (give a) h ih u = let n : _≡_ {A = ℕ} 0 1 = cc in absurd (omega arith)
-  refused-step bs p e q (before a) h ih u = let n : _≡_ {A = ℕ} 0 1 = cc in absurd (omega arith)
-  refused-step bs p e q (refuse x) h ih u = let n : x ≡ e = cc in subst P n h
-
-  refused-is : (bs : List ℕ) (s : S) (p : ℕ) (e : F) (q : ℕ) → run m s p bs ≡ refused e q → P e
-  refused-is [] s p e q u = let n : _≡_ {A = ℕ} 0 1 = cc in absurd (omega arith)
-  refused-is (b ∷ bs) s p e q u = refused-step bs p e q (m s p b) (R s p b) (λ s′. refused-is bs s′ (p + 1) e q) u
-
--- machines made of machines
-module _ {S A B E F : Type 0} (P : E → Type 0) (Q : F → Type 0) (f : A → Verdict B F) (g : E → F) (m : Step S A E) where
-  verdict-given : (v : Verdict B F) → ((x : F) → v ≡ fail x → Q x) → Refusal Q (given {S = S} f g v)
-  verdict-given (pass b) h = tt
-  verdict-given (fail x) h = h x refl
-
-  verdict-left : (v : Verdict B F) → ((x : F) → v ≡ fail x → Q x) → Refusal Q (left {S = S} f g v)
-  verdict-left (pass b) h = tt
-  verdict-left (fail x) h = h x refl
-
-  judged-move : ((a : A) (x : F) → f a ≡ fail x → Q x) → ((e : E) → P e → Q (g e)) → (v : Move S A E) → Refusal P v → Refusal Q (moved f g v)
-  judged-move h k (keep s) r = tt
-  judged-move h k (give a) r = verdict-given (f a) (h a)
-  judged-move h k (before a) r = verdict-left (f a) (h a)
-  judged-move h k (refuse e) r = k e r
-
-  refuses-judged : ((a : A) (x : F) → f a ≡ fail x → Q x) → ((e : E) → P e → Q (g e)) → Refuses P m → Refuses Q (judged f g m)
-  refuses-judged h k R s p b = judged-move h k (m s p b) (R s p b)
-
-onward-move : (S : Type 0) {A T B F : Type 0} (P : F → Type 0) (a : A) (v : Move T B F) → Refusal P v → Refusal P (onward {S = S} a v)
-onward-move S P a (keep t) r = tt
-onward-move S P a (give b) r = tt
-onward-move S P a (before b) r = tt
-onward-move S P a (refuse e) r = r
-
-module _ {S A T B F : Type 0} (P : F → Type 0) where
-  cross-move : (v : Move S A F) → Refusal P v → (go : A → T) (k : A → Move T B F) → ((a : A) → Refusal P (k a)) → Refusal P (cross v go k)
-  cross-move (keep s) r go k h = tt
-  cross-move (give a) r go k h = tt
-  cross-move (before a) r go k h = onward-move S P a (k a) (h a)
-  cross-move (refuse e) r go k h = r
-
-  refuses-seq : (m : Step S A F) (go : A → T) (n : A → Step T B F) → Refuses P m → ((a : A) → Refuses P (n a)) → Refuses P (seq m go n)
-  refuses-seq m go n M N (first s) p b = cross-move (m s p b) (M s p b) go (λ a. n a (go a) p b) (λ a. N a (go a) p b)
-  refuses-seq m go n M N (second a t) p b = onward-move S P a (n a t p b) (N a t p b)
-
-module _ {A F : Type 0} (P : F → Type 0) where
-  lifted-move : {S T : Type 0} (f : S → T) (v : Move S A F) → Refusal P v → Refusal P (lifted f v)
-  lifted-move f (keep s) r = tt
-  lifted-move f (give a) r = tt
-  lifted-move f (before a) r = tt
-  lifted-move f (refuse e) r = r
-
-  refuses-branch : {S T : Type 0} (test : ℕ → Bool) (m : Step S A F) (s : S) (n : Step T A F) (t : T) → Refuses P m → Refuses P n → Refuses P (branch test m s n t)
-  refuses-branch test m s n t M N fresh p b = split (Refusal P) (test b) (λ _. lifted-move one (m s p b) (M s p b)) (λ _. lifted-move other (n t p b) (N t p b))
-  refuses-branch test m s n t M N (one u) p b = lifted-move one (m u p b) (M u p b)
-  refuses-branch test m s n t M N (other u) p b = lifted-move other (n u p b) (N u p b)
-
-module _ {A S B F : Type 0} (P : F → Type 0) (go : A → S) where
-  turned-move : (a : A) (v : Move S (Turn A B) F) (k : A → Move (A × S) B F) → Refusal P v → ((a′ : A) → Refusal P (k a′)) → Refusal P (turned go a v k)
-  turned-move a (keep s) k r h = tt
-  turned-move a (give (again x)) k r h = tt
-  turned-move a (give (done x)) k r h = tt
-  turned-move a (before (again x)) k r h = h x
-  turned-move a (before (done x)) k r h = tt
-  turned-move a (refuse e) k r h = r
-
-  refuses-loop : (m : A → Step S (Turn A B) F) → ((a : A) → Refuses P (m a)) → Refuses P (loop go m)
-  refuses-loop m M c p b =
-      turned-move (c .0) (m (c .0) (c .1) p b) _ (M (c .0) (c .1) p b)
-      (λ a′. turned-move a′ (m a′ (go a′) p b) _ (M a′ (go a′) p b) (λ a″. tt))
-
 -- an error that says nothing of slots
 abbrev pub Ordinary : Error → Type 0
 Ordinary e = e ≡ TooManyHeaders → ⊥
 
 name-ordinary : Ordinary HeaderName
-name-ordinary e = let n : _≡_ {A = ℕ} 0 1 = cc in omega arith
+name-ordinary e = never cc
 
 value-ordinary : Ordinary HeaderValue
-value-ordinary e = let n : _≡_ {A = ℕ} 0 1 = cc in omega arith
+value-ordinary e = never cc
 
 line-ordinary : Ordinary NewLine
-line-ordinary e = let n : _≡_ {A = ℕ} 0 1 = cc in omega arith
+line-ordinary e = never cc
 
 status-ordinary : Ordinary Status
-status-ordinary e = let n : _≡_ {A = ℕ} 0 1 = cc in omega arith
+status-ordinary e = never cc
 
 token-ordinary : Ordinary Token
-token-ordinary e = let n : _≡_ {A = ℕ} 0 1 = cc in omega arith
+token-ordinary e = never cc
 
 version-ordinary : Ordinary Version
-version-ordinary e = let n : _≡_ {A = ℕ} 0 1 = cc in omega arith
+version-ordinary e = never cc
 
 -- the parts
 end-refuses : (r : Rules) (x : Error) → Ordinary x → Refuses Ordinary (lineEndStep r x)
@@ -186,10 +103,6 @@ value-refuses : Refuses Ordinary valueStep
 value-refuses blanks p b = split (Refusal Ordinary) (isBlank b) (λ _. tt) (λ _. split (Refusal Ordinary) (isValue b) (λ _. tt) (λ _. tt))
 value-refuses (inside v e) p b = split (Refusal Ordinary) (isValue b) (λ _. tt) (λ _. tt)
 
--- a verdict that always passes
-passes : {A B F : Type 0} (Q : F → Type 0) (f : A → B) (a : A) (x : F) → pass (f a) ≡ fail x → Q x
-passes Q f a x e = let n : _≡_ {A = ℕ} 0 1 = cc in absurd (omega arith)
-
 -- a line
 line-refuses : (r : Rules) → Refuses Ordinary (lineStep r)
 line-refuses r =
@@ -204,11 +117,11 @@ abbrev Full : ℕ → Error × List Header → Type 0
 Full n x = x .0 ≡ TooManyHeaders → n ≤ length (x .1)
 
 taken-full : (n : ℕ) (hs : List Header) (k : Kind) (x : Error × List Header) → taken n hs k ≡ fail x → Full n x
-taken-full n hs end x e = let n : _≡_ {A = ℕ} 0 1 = cc in absurd (omega arith)
+taken-full n hs end x e = never cc
 taken-full n hs (header h) x e = by (ltb (length hs) n) refl e
   where
     by : (t : Bool) → ltb (length hs) n ≡ t → _≡_ {A = Verdict (Turn (List Header) (List Header)) (Error × List Header)} (cond t (pass (again (hs ++ (h ∷ [])))) (fail (TooManyHeaders, hs))) (fail x) → Full n x
-    by true t u = let n : _≡_ {A = ℕ} 0 1 = cc in absurd (omega arith)
+    by true t u = never cc
     by false t u = let v : _≡_ {A = Error × List Header} (TooManyHeaders, hs) x = cc in subst (Full n) v (λ _. ltb-false (length hs) n t)
 
 block-refuses : (r : Rules) (n : ℕ) → Refuses (Full n) (blockStep r n)

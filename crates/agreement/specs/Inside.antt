@@ -7,9 +7,12 @@ use mathlib.Core.List.{List, [], _∷_, _++_, append-nil}
 use lib.ListN.{length, drop, length-append, length-drop}
 use Rattle.reader.specs.Machine.{Step}
 use Rattle.reader.specs.Answer.{Answer, got, short, bad, answered, and}
-use Rattle.reader.specs.Chain.{nothing, reads, ended, last, chain}
+use Rattle.reader.specs.Known.{knownOf, last-holds, chain-holds}
+use Rattle.reader.specs.Chain.{nothing, reads, ended}
+use Rattle.reader.specs.Tests.{never}
 use Rattle.exact.specs.Exact.{Relation, Exact}
 use Rattle.octets.specs.Class.{isToken}
+use Rattle.octets.specs.Outside.{space-no-token}
 use Rattle.rules.specs.Rules.{Rules, default}
 use Rattle.grammar.specs.Rows.{Many, none}
 use Rattle.grammar.specs.Message.{method, request-target, plain-text}
@@ -32,29 +35,10 @@ use Rattle.statusline.specs.StatusLine as statuses
 use Rattle.leaves.specs.Word.{Worded, exact-word}
 use Rattle.leaves.specs.Target.{Targeted, exact-target}
 use Rattle.leaves.specs.Reason.{Reasoned, plain, obsolete, exact-reason}
-use Rattle.agreement.specs.StartLine.{no-space}
 use Rattle.agreement.specs.Places.{held, at-drop, at-as, at-first, held-at}
 use Rattle.agreement.specs.Rows.{many-as, tokens}
 use Rattle.agreement.specs.Starts.{default-fixed, target-derived, plain-is}
 use Rattle.agreement.specs.Known.{RequestInside, StatusInside}
-
--- what an answer knows
-abbrev pub knownOf : {K E : Type 0} → Answer K K (E × K) → K
-knownOf (got k q) = k
-knownOf (short k) = k
-knownOf (bad x) = x .1
-
--- what holds before a part and with what it adds holds of what is known in the end
-module _ {K A E : Type 0} (P : K → Type 0) (k : K) (f : A → K) (h : P k) where
-  last-holds : (a : Answer (Unit {0}) A E) → ((x : A) (q : ℕ) → a ≡ got x q → P (f x)) → P (knownOf (last k f a))
-  last-holds (got x q) g = g x q refl
-  last-holds (short u) g = h
-  last-holds (bad e) g = h
-
-  chain-holds : (next : K → ℕ → Answer K K (E × K)) (a : Answer (Unit {0}) A E) → ((x : A) (q : ℕ) → a ≡ got x q → P (knownOf (next (f x) q))) → P (knownOf (chain k f a next))
-  chain-holds next (got x q) g = g x q refl
-  chain-holds next (short u) g = h
-  chain-holds next (bad e) g = h
 
 -- a piece that an exact machine gives lies in the input and holds such bytes, where its relation says that it does so in what was read
 module _ {S : Type 0} {m : Step S Piece Error} {s : S} {G : Relation Piece} (M : Exact m s G) (Such : List ℕ → Type 0)
@@ -92,7 +76,7 @@ module _ (r : Rules) (z : List ℕ) where
   target-in k q h = chain-holds In k (requests.withTarget k) h (requests.fromVersion r z) (target z q) (λ t i e. version-in (requests.withTarget k t) i (record { method = h .method; target = piece-in exact-target (request-target default) target-such z q t i e }))
 
   method-in : (k : RequestLine) (q : ℕ) → In k → In (knownOf (requests.fromMethod r z k q))
-  method-in k q h = chain-holds In k (requests.withMethod k) h (requests.fromTarget r z) (word isToken 32 Token z q) (λ m i e. target-in (requests.withMethod k m) i (record { method = piece-in (exact-word isToken 32 Token no-space) method word-such z q m i e; target = h .target }))
+  method-in k q h = chain-holds In k (requests.withMethod k) h (requests.fromTarget r z) (word isToken 32 Token z q) (λ m i e. target-in (requests.withMethod k m) i (record { method = piece-in (exact-word isToken 32 Token space-no-token) method word-such z q m i e; target = h .target }))
 
   pub request-line-in : In (knownOf (requests.requestLine r z 0))
   request-line-in =
@@ -105,10 +89,10 @@ reason-got (got w i) y a q e = (i, ap (λ v. got v i) (by (y w i) e))
   where
     by : (b : Answer (Unit {0}) (Unit {0}) Error) → ended w b ≡ got a q → w ≡ a
     by (got u j) f = cc
-    by (short u) f = let n : _≡_ {A = ℕ} 0 1 = cc in absurd (omega arith)
-    by (bad u) f = let n : _≡_ {A = ℕ} 0 1 = cc in absurd (omega arith)
-reason-got (short u) y a q e = let n : _≡_ {A = ℕ} 0 1 = cc in absurd (omega arith)
-reason-got (bad u) y a q e = let n : _≡_ {A = ℕ} 0 1 = cc in absurd (omega arith)
+    by (short u) f = never cc
+    by (bad u) f = never cc
+reason-got (short u) y a q e = never cc
+reason-got (bad u) y a q e = never cc
 
 module _ (r : Rules) (z : List ℕ) where
   abbrev Lies : StatusLine → Type 0

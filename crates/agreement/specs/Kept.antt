@@ -1,6 +1,6 @@
 -- The promises are kept wherever a call tells what an exact reader answers.
 -- Assumes nothing.
-use Prim.Native.Nat.{ℕ, zero, suc, _+_, _*_, _/_, _≤_, _<_}
+use Prim.Native.Nat.{ℕ, zero, suc, _*_, _/_, _≤_, _<_}
 use native.Mathlib.Omega.{arith}
 use mathlib.Core.Path.{_≡_, refl, sym, ap, subst, _∙_}
 use mathlib.Core.List.{List, [], _∷_, _++_}
@@ -10,6 +10,8 @@ use lib.ListN.{length, take, drop, length-append, length-drop}
 use lib.Seq.{drop-at}
 use borrow.Author.Tests.{ltb-true, ltb-false}
 use Rattle.reader.specs.Answer.{got, bad}
+use Rattle.reader.specs.Tests.{never}
+use Rattle.reader.specs.Known.{knownOf}
 use Rattle.grammar.specs.Fields.{Field}
 use Rattle.parts.specs.declared.Error.{Error}
 use Rattle.parts.specs.declared.Error.the-variants.{TooManyHeaders}
@@ -22,7 +24,6 @@ use Rattle.heads.specs.Head.{Heads, Known, given, Told}
 use Rattle.agreement.specs.FieldLine.{fieldOf, HeaderIn}
 use Rattle.agreement.specs.Fields.{fieldsOf, Each, are-fields}
 use Rattle.agreement.specs.Known.{fieldsIn, SlotsInside, AreFields}
-use Rattle.agreement.specs.Inside.{knownOf}
 use Rattle.agreement.specs.Exactly.{Exactly, Lies}
 use Rattle.agreement.specs.Promises.{HeadAt, HeadPromise}
 
@@ -57,15 +58,15 @@ filled-length hs old l = omega (arith, l, length-append (flat hs) (drop (length 
 
 -- an answer tells how it ended, and what is known
 module _ {K : Type 0} where
-  same-got : (end : Passed) (k k′ : K) (hs hs′ : List Header) (q : ℕ) → _≡_ {A = Heads K} (tell end (k, hs)) (got (k′, hs′) q) → (end ≡ At q) × (k ≡ k′) × (hs ≡ hs′)
-  same-got (At p) k k′ hs hs′ q e = let u : _≡_ {A = Known K} (k, hs) (k′, hs′) = cc in (cc, ap (λ y. y .0) u, ap (λ y. y .1) u)
-  same-got More k k′ hs hs′ q e = let n : _≡_ {A = ℕ} 0 1 = cc in absurd (omega arith)
-  same-got (Bad x) k k′ hs hs′ q e = let n : _≡_ {A = ℕ} 0 1 = cc in absurd (omega arith)
+  told-got : (end : Passed) (k k′ : K) (hs hs′ : List Header) (q : ℕ) → _≡_ {A = Heads K} (tell end (k, hs)) (got (k′, hs′) q) → (end ≡ At q) × (k ≡ k′) × (hs ≡ hs′)
+  told-got (At p) k k′ hs hs′ q e = let u : _≡_ {A = Known K} (k, hs) (k′, hs′) = cc in (cc, ap (λ y. y .0) u, ap (λ y. y .1) u)
+  told-got More k k′ hs hs′ q e = never cc
+  told-got (Bad x) k k′ hs hs′ q e = never cc
 
-  pub same-bad : (end : Passed) (k k′ : K) (hs hs′ : List Header) (x : Error) → _≡_ {A = Heads K} (tell end (k, hs)) (bad (x, (k′, hs′))) → (end ≡ Bad x) × (k ≡ k′) × (hs ≡ hs′)
-  same-bad (At p) k k′ hs hs′ q e = let n : _≡_ {A = ℕ} 0 1 = cc in absurd (omega arith)
-  same-bad More k k′ hs hs′ q e = let n : _≡_ {A = ℕ} 0 1 = cc in absurd (omega arith)
-  same-bad (Bad x) k k′ hs hs′ q e = let u : _≡_ {A = Error × Known K} (x, (k, hs)) (q, (k′, hs′)) = cc in (ap (λ y. Bad (y .0)) u, ap (λ y. y .1 .0) u, ap (λ y. y .1 .1) u)
+  pub told-bad : (end : Passed) (k k′ : K) (hs hs′ : List Header) (x : Error) → _≡_ {A = Heads K} (tell end (k, hs)) (bad (x, (k′, hs′))) → (end ≡ Bad x) × (k ≡ k′) × (hs ≡ hs′)
+  told-bad (At p) k k′ hs hs′ q e = never cc
+  told-bad More k k′ hs hs′ q e = never cc
+  told-bad (Bad x) k k′ hs hs′ q e = let u : _≡_ {A = Error × Known K} (x, (k, hs)) (q, (k′, hs′)) = cc in (ap (λ y. Bad (y .0)) u, ap (λ y. y .1 .0) u, ap (λ y. y .1 .1) u)
 
 -- as many fields are in the slots as are counted
 pub fields-counted : (z : List ℕ) (count : ℕ) (slots : List ℕ) → length (fieldsIn z count slots) ≡ count
@@ -82,13 +83,13 @@ told-line {K} {a} {end} {line} T = ap (λ (y : Heads K). knownOf y .0) (sym (T .
     by (Bad x) = refl
 
 at-more : {q : ℕ} → At q ≡ More → ⊥
-at-more e = let n : _≡_ {A = ℕ} 0 1 = cc in omega arith
+at-more e = never cc
 
 bad-same : {x y : Error} → Bad x ≡ Bad y → x ≡ y
 bad-same e = cc
 
 bad-more : {x : Error} → Bad x ≡ More → ⊥
-bad-more e = let n : _≡_ {A = ℕ} 0 1 = cc in omega arith
+bad-more e = never cc
 
 module _ {L K : Type 0} {Head : List ℕ → L → List Field → Type 0} {Says : List ℕ → K → L → Type 0} {s old : List ℕ} {end : Passed} {line : K} {count : ℕ} {new : List ℕ} {read : List ℕ → Heads K} {In : List ℕ → K → Type 0} (X : Exactly Head Says (length old / 4) read) (Y : Lies In read) (T : Told (read s) end line count old new) where
   -- the slots hold what the reader has given
@@ -111,14 +112,14 @@ module _ {L K : Type 0} {Head : List ℕ → L → List Field → Type 0} {Says 
   accept w t l fs e h f =
       let A = X .complete w t l fs h f in
       let r : read s ≡ got (A .k, A .hs) (length w) = ap read e ∙ A .answers in
-      let u = same-got end line (A .k) (given (read s)) (A .hs) (length w) (T .answer ∙ r) in
+      let u = told-got end line (A .k) (given (read s)) (A .hs) (length w) (T .answer ∙ r) in
       (u .0, subst (λ y. Says y line l) (sym e) (subst (λ y. Says (w ++ t) y l) (sym (u .1)) (A .says)), in-slots ∙ ap (fieldsOf s) (u .2) ∙ ap (λ y. fieldsOf y (A .hs)) e ∙ A .holds)
 
   overflow : (w t : List ℕ) (l : L) (fs : List Field) → s ≡ w ++ t → Head w l fs → length old / 4 < length fs → (end ≡ Bad TooManyHeaders) × Says s line l × (fieldsIn s count new ≡ take (length old / 4) fs)
   overflow w t l fs e h f =
       let A = X .too-many w t l fs h f in
       let r : read s ≡ bad (TooManyHeaders, (A .k, A .hs)) = ap read e ∙ A .answers in
-      let u = same-bad end line (A .k) (given (read s)) (A .hs) TooManyHeaders (T .answer ∙ r) in
+      let u = told-bad end line (A .k) (given (read s)) (A .hs) TooManyHeaders (T .answer ∙ r) in
       (u .0, subst (λ y. Says y line l) (sym e) (subst (λ y. Says (w ++ t) y l) (sym (u .1)) (A .says)), in-slots ∙ ap (fieldsOf s) (u .2) ∙ ap (λ y. fieldsOf y (A .hs)) e ∙ A .holds)
 
   -- an error stays, and a head that fits would not be one
@@ -128,7 +129,7 @@ module _ {L K : Type 0} {Head : List ℕ → L → List Field → Type 0} {Says 
       let b : read (s ++ u) ≡ bad (x, (line, given (read s))) = X .stays s u (x, (line, given (read s))) (read-bad x e) in
       let g : read (s ++ u) ≡ got (A .k, A .hs) (length w) = ap read i ∙ A .answers in
       let c = sym b ∙ g in
-      let n : _≡_ {A = ℕ} 0 1 = cc in omega arith
+      never cc
 
   errs-at-all : (x : Error) → end ≡ Bad x → (x ≡ TooManyHeaders → ⊥) → (u w t : List ℕ) (l : L) (fs : List Field) → s ++ u ≡ w ++ t → Head w l fs → ⊥
   errs-at-all x e other u w t l fs i h = by (ltb (length old / 4) (length fs)) refl
@@ -139,7 +140,7 @@ module _ {L K : Type 0} {Head : List ℕ → L → List Field → Type 0} {Says 
           let A = X .too-many w t l fs h (ltb-true (length old / 4) (length fs) f) in
           let b : read (s ++ u) ≡ bad (x, (line, given (read s))) = X .stays s u (x, (line, given (read s))) (read-bad x e) in
           let g : read (s ++ u) ≡ bad (TooManyHeaders, (A .k, A .hs)) = ap read i ∙ A .answers in
-          let v = same-bad (Bad x) line (A .k) (given (read s)) (A .hs) TooManyHeaders (sym b ∙ g) in
+          let v = told-bad (Bad x) line (A .k) (given (read s)) (A .hs) TooManyHeaders (sym b ∙ g) in
           other (bad-same (v .0))
 
   waits : end ≡ More → (w t : List ℕ) (l : L) (fs : List Field) → s ≡ w ++ t → Head w l fs → ⊥

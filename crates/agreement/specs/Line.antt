@@ -1,7 +1,5 @@
 -- A line of a header block is read exactly where a field line or an empty line stands.
 -- Assumes nothing.
-use mathlib.Core.Path.{_≡_, refl}
-use mathlib.Core.Bool.{false}
 use Rattle.reader.specs.Judged.{pass}
 use Rattle.reader.specs.Seq.{first, seq}
 use Rattle.reader.specs.Judged.{judged}
@@ -10,7 +8,8 @@ use Rattle.exact.specs.Exact.{Relation, Exact}
 use Rattle.exact.specs.Judged.{Passes, exact-judged}
 use Rattle.exact.specs.Seq.{Both, exact-seq}
 use Rattle.exact.specs.Branch.{Forks, exact-branch}
-use Rattle.octets.specs.Class.{among, within, isDigit, isToken}
+use Rattle.octets.specs.Class.{isToken}
+use Rattle.octets.specs.Outside.{colon-no-token}
 use Rattle.parts.specs.declared.Error.{Error}
 use Rattle.parts.specs.declared.Error.the-variants.{HeaderName, HeaderValue, NewLine}
 use Rattle.rules.specs.Rules.{Rules}
@@ -21,10 +20,6 @@ use Rattle.fields.specs.Line.{Kind, end, named, fieldStep, ends, lineStep}
 use Rattle.leaves.specs.LineEnd.{EndsAt, exact-line-end}
 use Rattle.leaves.specs.Word.{Worded, exact-word}
 use Rattle.leaves.specs.Value.{Valued, exact-value}
-
-no-colon : isToken 58 ≡ false
-unfolding isToken isDigit within among
-no-colon = refl
 
 -- a name and a colon, a value, the line's end
 abbrev pub Fielded : Rules → Relation Kind
@@ -38,7 +33,7 @@ module _ (r : Rules) where
   exact-field : Exact (fieldStep r) (first none) (Fielded r)
   exact-field =
       exact-seq (wordStep isToken 58 HeaderName) (λ n. first blanks) (λ n. seq valueStep (λ v. begin) (λ v. judged (λ _. pass (named n v)) (λ e. e) (lineEndStep r HeaderValue))) none
-      (exact-word isToken 58 HeaderName no-colon) (λ n.
+      (exact-word isToken 58 HeaderName colon-no-token) (λ n.
       exact-seq valueStep (λ v. begin) (λ v. judged (λ _. pass (named n v)) (λ e. e) (lineEndStep r HeaderValue)) blanks
       exact-value (λ v. exact-judged (λ _. pass (named n v)) (λ e. e) (lineEndStep r HeaderValue) (exact-line-end r HeaderValue)))
 

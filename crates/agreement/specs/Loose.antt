@@ -3,15 +3,15 @@
 -- Assumes nothing.
 use Prim.Native.Nat.{ℕ}
 use native.Mathlib.Omega.{arith}
-use mathlib.Core.Path.{_≡_, refl, sym, ap, subst, _∙_}
+use mathlib.Core.Path.{_≡_, refl, sym, subst}
 use mathlib.Core.List.{List, [], _∷_, _++_, append-assoc}
-use mathlib.Core.Bool.{false, false≢true}
+use mathlib.Core.Bool.{false}
 use lib.Dec.{eqb}
 use borrow.Author.Tests.{eqb-false}
 use Rattle.octets.specs.Grammar.{blank, tchar, text}
-use Rattle.octets.specs.Grammar as bytes
-use Rattle.octets.specs.Class.{among, within, isDigit, isToken}
-use Rattle.octets.proofs.Ties.{token-is-tchar}
+use Rattle.octets.specs.Class.{isBlank, isToken, isValue}
+use Rattle.octets.specs.Ties.{blank-is-blank, token-is-tchar, value-is-text}
+use Rattle.octets.specs.Outside.{differs, cr-no-blank, cr-no-token, cr-no-value}
 use Rattle.rules.specs.Rules.{default}
 use Rattle.grammar.specs.Rows.{Many, none, more, Some, some}
 use Rattle.grammar.specs.Fields.{OWS, qdtext, quoted, quoted-string}
@@ -37,17 +37,13 @@ blank-before h (extended o w) = extended (more h o) w
 
 -- no byte of an extension is a CR
 no-cr-blank : (b : ℕ) → blank b → NoCR b
-no-cr-blank b (bytes.blank.space h) e = omega (arith, h, e)
-no-cr-blank b (bytes.blank.tab h) e = omega (arith, h, e)
+no-cr-blank b h = differs isBlank cr-no-blank (blank-is-blank b .1 h)
 
 no-cr-text : (b : ℕ) → text b → NoCR b
-no-cr-text b (bytes.text.white h) e = no-cr-blank b h e
-no-cr-text b (bytes.text.field (bytes.visible h)) e = omega (arith, h .low, e)
-no-cr-text b (bytes.text.field (bytes.obsolete h)) e = omega (arith, h .low, e)
+no-cr-text b h = differs isValue cr-no-value (value-is-text b .1 h)
 
 no-cr-token : (b : ℕ) → tchar b → NoCR b
-unfolding isToken isDigit within among
-no-cr-token b h e = false≢true (sym (sym (token-is-tchar b .1 h) ∙ ap isToken e))
+no-cr-token b h = differs isToken cr-no-token (token-is-tchar b .1 h)
 
 no-cr-quoted : (b : ℕ) → qdtext b → NoCR b
 no-cr-quoted b (fields.qdtext.tab h) e = omega (arith, h, e)

@@ -3,10 +3,11 @@
 use Prim.Native.Nat.{ℕ, _+_}
 use mathlib.Core.Path.{_≡_, refl, sym, ap, subst, _∙_}
 use mathlib.Core.List.{List, _∷_, _++_, append-assoc}
-use mathlib.Core.Bool.{true, _&&_}
+use mathlib.Core.Bool.{true, _&&_, and-false}
 use lib.ListN.{length}
 use Rattle.octets.specs.Class.{isToken}
-use Rattle.octets.proofs.Ties.{token-is-tchar}
+use Rattle.octets.specs.Ties.{token-is-tchar}
+use Rattle.octets.specs.Outside.{differs-test, cr-no-token, lf-no-token}
 use Rattle.rules.specs.Rules.{Rules}
 use Rattle.grammar.specs.Rows.{some}
 use Rattle.grammar.specs.Message.{space, empty-lines, line-end, request-line}
@@ -19,7 +20,6 @@ use Rattle.leaves.specs.EmptyLines.{Stops}
 use Rattle.agreement.specs.StartLine.{RequestLined}
 use Rattle.agreement.specs.Places.{held, At, at-as, at-first, at-second, held-at}
 use Rattle.agreement.specs.Rows.{tokens, in-token}
-use Rattle.agreement.specs.FieldLine.{token-not, no-cr, no-lf, neither}
 use Rattle.agreement.specs.Starts.{Fixed, target-derived, target-read, version-derived, version-read}
 use Rattle.agreement.specs.Steps.{passed-is, apart, together, Started, LineRead}
 use Rattle.agreement.specs.Known.{RequestSays}
@@ -63,7 +63,7 @@ module _ {z : List ℕ} {r : Rules} (fixed : Fixed r) {p : ℕ} {rest : List ℕ
 
 -- a method's first byte begins no empty line
 method-stops : (r : Rules) (b : ℕ) (ys : List ℕ) → isToken b ≡ true → Stops r (b ∷ ys)
-method-stops r b ys t = record { b = b; ys = ys; whole = refl; no-cr = rw (token-not b 13 no-cr t) (neither (r .empty-lines)); no-lf = rw (token-not b 10 no-lf t) (neither (r .empty-lines && r .lf-alone)) }
+method-stops r b ys t = record { b = b; ys = ys; whole = refl; no-cr = rw (differs-test isToken b 13 cr-no-token t) (and-false (r .empty-lines)); no-lf = rw (differs-test isToken b 10 lf-no-token t) (and-false (r .empty-lines && r .lf-alone)) }
 
 module _ {z : List ℕ} {r : Rules} (fixed : Fixed r) {p : ℕ} {rest : List ℕ} where
   pub request-read : {e l c : List ℕ} {g : grammar.RequestLine} → At z p (e ++ l ++ c) rest → empty-lines r e → request-line r l g → line-end r c → LineRead RequestSays (RequestLined r) z p (e ++ l ++ c) g rest

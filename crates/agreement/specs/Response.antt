@@ -1,9 +1,10 @@
 -- A status line is read exactly where the grammar has one behind empty lines, and its piece holds the reason.
 -- Assumes nothing.
-use Prim.Native.Nat.{ℕ, _+_}
+use Prim.Native.Nat.{ℕ}
 use mathlib.Core.Path.{_≡_, refl, sym, ap, subst, _∙_}
 use mathlib.Core.List.{List, _++_, append-assoc}
-use mathlib.Core.Bool.{_&&_}
+use mathlib.Core.Bool.{_&&_, and-false}
+use Rattle.reader.specs.Tests.{clash}
 use Rattle.rules.specs.Rules.{Rules}
 use Rattle.grammar.specs.Message.{space, empty-lines, line-end, Version, HTTP-version, one-zero, one-one, status-line}
 use Rattle.grammar.specs.Message as grammar
@@ -14,8 +15,7 @@ use Rattle.leaves.specs.Status.{Spaced}
 use Rattle.leaves.specs.Status as statuses
 use Rattle.agreement.specs.StartLine.{StatusLined}
 use Rattle.agreement.specs.Places.{held, At, at-as, at-first, at-second}
-use Rattle.agreement.specs.FieldLine.{neither}
-use Rattle.agreement.specs.Starts.{Fixed, clash, version-derived, version-read, code-derived, code-read}
+use Rattle.agreement.specs.Starts.{Fixed, version-derived, version-read, code-derived, code-read}
 use Rattle.agreement.specs.Steps.{passed-is, apart, together, Started, LineRead}
 use Rattle.agreement.specs.Known.{StatusSays}
 use Rattle.agreement.specs.Tail.{parts-line, line-parts, tail-derived, tail-read}
@@ -70,8 +70,8 @@ module _ {z : List ℕ} {r : Rules} (fixed : Fixed r) {p : ℕ} {rest : List ℕ
 
 -- a version's first byte begins no empty line
 version-stops : {r : Rules} {v : List ℕ} {n : Version} → Fixed r → HTTP-version r v n → (rest : List ℕ) → Stops r (v ++ rest)
-version-stops {r} fixed one-zero rest = record { b = 72; ys = _; whole = refl; no-cr = neither (r .empty-lines); no-lf = neither (r .empty-lines && r .lf-alone) }
-version-stops {r} fixed one-one rest = record { b = 72; ys = _; whole = refl; no-cr = neither (r .empty-lines); no-lf = neither (r .empty-lines && r .lf-alone) }
+version-stops {r} fixed one-zero rest = record { b = 72; ys = _; whole = refl; no-cr = and-false (r .empty-lines); no-lf = and-false (r .empty-lines && r .lf-alone) }
+version-stops {r} fixed one-one rest = record { b = 72; ys = _; whole = refl; no-cr = and-false (r .empty-lines); no-lf = and-false (r .empty-lines && r .lf-alone) }
 version-stops fixed (grammar.HTTP-version.other h a b) rest = absurd (clash (fixed .known-versions) h)
 
 module _ {z : List ℕ} {r : Rules} (fixed : Fixed r) {p : ℕ} {rest : List ℕ} where

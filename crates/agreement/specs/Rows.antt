@@ -4,7 +4,7 @@ use Prim.Native.Nat.{ℕ}
 use mathlib.Core.List.{List, _++_}
 use Rattle.octets.specs.Grammar.{field-vchar, tchar, blank, text}
 use Rattle.octets.specs.Class.{isBlank, isToken, isTarget, isValue}
-use Rattle.octets.proofs.Ties.{blank-is-blank, token-is-tchar, target-is-field-vchar, value-is-text}
+use Rattle.octets.specs.Ties.{blank-is-blank, token-is-tchar, target-is-field-vchar, value-is-text}
 use Rattle.grammar.specs.Rows.{Many, none, more, Some, some}
 use Rattle.leaves.specs.Rows.{In}
 

@@ -1,7 +1,5 @@
 -- Request lines and status lines are read exactly where their parts stand in a row.
 -- Assumes nothing.
-use mathlib.Core.Path.{_≡_, refl}
-use mathlib.Core.Bool.{false}
 use Rattle.reader.specs.Machine.{Step}
 use Rattle.reader.specs.Judged.{pass, judged}
 use Rattle.reader.specs.Seq.{first}
@@ -9,7 +7,8 @@ use Rattle.reader.specs.Chain.{part}
 use Rattle.exact.specs.Exact.{Relation, Exact}
 use Rattle.exact.specs.Judged.{Passes, exact-judged}
 use Rattle.exact.specs.Seq.{Both, exact-seq}
-use Rattle.octets.specs.Class.{among, within, isDigit, isToken}
+use Rattle.octets.specs.Class.{isToken}
+use Rattle.octets.specs.Outside.{space-no-token}
 use Rattle.parts.specs.declared.Error.{Error}
 use Rattle.parts.specs.declared.Error.the-variants.{NewLine, Status, Token, Version}
 use Rattle.parts.specs.declared.Piece.{Piece}
@@ -38,10 +37,6 @@ use Rattle.leaves.specs.Version.{DigitAt, exact-version}
 use Rattle.leaves.specs.Status.{Spaced, exact-space, Coded, exact-code}
 use Rattle.leaves.specs.BehindCode.{Behind, exact-behind}
 use Rattle.leaves.specs.Reason.{Reasoned, exact-reason}
-
-pub no-space : isToken 32 ≡ false
-unfolding isToken isDigit within among
-no-space = refl
 
 -- a part whose answer f adds to what is known
 abbrev pub Adds : {A K : Type 0} → (A → K) → Relation A → Relation K
@@ -72,7 +67,7 @@ module _ (r : Rules) where
       exact-seq (part request.unread (λ _. request.unread) (emptyLinesStep r)) (λ _. first words.none) (request.methodOn r) start
       (exact-part request.unread (λ _. request.unread) (emptyLinesStep r) start (exact-empties r)) (λ k.
       exact-seq (part k (request.withMethod k) (wordStep isToken 32 Token)) (λ _. first targets.none) (request.targetOn r) words.none
-      (exact-part k (request.withMethod k) (wordStep isToken 32 Token) words.none (exact-word isToken 32 Token no-space)) (λ k.
+      (exact-part k (request.withMethod k) (wordStep isToken 32 Token) words.none (exact-word isToken 32 Token space-no-token)) (λ k.
       exact-seq (part k (request.withTarget k) targetStep) (λ _. first name) (request.versionOn r) targets.none
       (exact-part k (request.withTarget k) targetStep targets.none exact-target) (λ k.
       exact-seq (part k (request.withVersion k) versionStep) (λ _. begin) (request.endStep r) name

@@ -2,18 +2,19 @@
 -- Assumes nothing.
 use Prim.Native.Nat.{ℕ, _+_, _-_, _*_}
 use native.Mathlib.Omega.{arith}
-use mathlib.Core.Path.{_≡_, refl, sym, ap, subst, _∙_}
+use mathlib.Core.Path.{_≡_, refl, sym, ap, subst}
 use mathlib.Core.Logic.{_⊎_, inl, inr}
 use mathlib.Core.List.{List, [], _∷_, _++_}
-use mathlib.Core.Bool.{Bool, true, false, false≢true}
+use mathlib.Core.Bool.{true}
+use Rattle.reader.specs.Tests.{clash}
 use Rattle.octets.specs.Grammar.{Range, DIGIT, VCHAR, obs-text, field-vchar, blank, text}
 use Rattle.octets.specs.Grammar as bytes
 use Rattle.octets.specs.Class.{isTarget, isValue, isAscii}
-use Rattle.octets.proofs.Ties.{in-range, range-in, above-range, digit-is-DIGIT, value-is-text}
+use Rattle.octets.specs.Ties.{in-range, range-in, above-range, digit-is-DIGIT, value-is-text}
 use Rattle.utf8.specs.Grammar.{UTF8-octets}
 use Rattle.utf8.specs.Grammar as characters
 use Rattle.utf8.specs.Reader.{utf8}
-use Rattle.utf8.proofs.Exact.{utf8-exact}
+use Rattle.utf8.specs.Exact.{utf8-exact}
 use Rattle.rules.specs.Rules.{Rules, default}
 use Rattle.grammar.specs.Rows.{Many, none, more, Some, some}
 use Rattle.grammar.specs.Message.{Version, HTTP-version, one-zero, one-one, request-target, status-code, plain-text, reason-phrase}
@@ -35,9 +36,6 @@ pub record Fixed (r : Rules) : Type 0 where
 
 pub default-fixed : Fixed default
 default-fixed = record { any-target = refl; known-versions = refl; any-code = refl; obs-reason = refl }
-
-pub clash : {t : Bool} → t ≡ true → t ≡ false → ⊥
-clash h k = false≢true (sym k ∙ h)
 
 -- visible characters are UTF-8
 visible-utf8 : {w : List ℕ} → Many VCHAR w → UTF8-octets w

@@ -1,12 +1,13 @@
 -- What stands behind a status code is read exactly where the grammar has it: a space and a reason, a space, or nothing.
 -- Assumes nothing.
 use Prim.Native.Nat.{ℕ, _+_}
-use native.Mathlib.Omega.{arith}
-use mathlib.Core.Path.{_≡_, refl, sym, ap, subst, _∙_}
+use mathlib.Core.Path.{_≡_, refl, sym, subst}
 use mathlib.Core.List.{List, [], _∷_, _++_, append-assoc, append-nil}
 use mathlib.Core.Bool.{true, false}
 use lib.ListN.{length}
-use Rattle.octets.specs.Class.{among, within, isBlank, isTarget, isValue}
+use Rattle.reader.specs.Tests.{clash, never}
+use Rattle.octets.specs.Class.{isValue}
+use Rattle.octets.specs.Outside.{differs, cr-no-value, lf-no-value}
 use Rattle.rules.specs.Rules.{Rules}
 use Rattle.grammar.specs.Rows.{none, more}
 use Rattle.grammar.specs.Message.{space, line-end, crlf, lf, Version, HTTP-version, status-code, reason-phrase, status-line}
@@ -19,7 +20,7 @@ use Rattle.leaves.specs.BehindCode as behind
 use Rattle.leaves.specs.Reason.{Reasoned, plain, obsolete}
 use Rattle.agreement.specs.Places.{held, At, at-first, at-second, held-at}
 use Rattle.agreement.specs.FieldLine.{end-stops}
-use Rattle.agreement.specs.Starts.{Fixed, clash, reason-plain, reason-obsolete, first-obsolete, plain-read}
+use Rattle.agreement.specs.Starts.{Fixed, reason-plain, reason-obsolete, first-obsolete, plain-read}
 
 -- the bytes behind a code up to the line's end, and the reason
 pub data Tail (r : Rules) : List ℕ → List ℕ → Type 0 where
@@ -48,19 +49,11 @@ line-parts (grammar.status-line.no-reason {v = v} {c = c} h i) = record { v = v;
 line-parts (grammar.status-line.code-ends {v = v} {c = c} x h i) = record { v = v; c = c; w = []; whole = sym (append-nil (v ++ space ++ c)); version = h; code = i; tail = short x }
 
 -- a line's end is no reason's first byte
-cr-no-value : isValue 13 ≡ false
-unfolding isValue isBlank isTarget among within
-cr-no-value = refl
-
-lf-no-value : isValue 10 ≡ false
-unfolding isValue isBlank isTarget among within
-lf-no-value = refl
-
 ends-at-once : {p : ℕ} {u : List ℕ} {a : Piece} {x : List ℕ} (b : ℕ) → isValue b ≡ false → Reasoned p u a x → (ys rest : List ℕ) → b ∷ ys ≡ u ++ rest → u ≡ []
 ends-at-once b f (plain none s) ys rest e = refl
-ends-at-once b f (plain (more {b = c} x k) s) ys rest e = let same : c ≡ b = cc in absurd (clash (x .value) (ap isValue same ∙ f))
-ends-at-once b f (obsolete {c = c} none o l s) ys rest e = let same : c ≡ b = cc in absurd (clash (o .value) (ap isValue same ∙ f))
-ends-at-once b f (obsolete (more {b = c} x k) o l s) ys rest e = let same : c ≡ b = cc in absurd (clash (x .value) (ap isValue same ∙ f))
+ends-at-once b f (plain (more {b = c} x k) s) ys rest e = let same : c ≡ b = cc in absurd (differs isValue f (x .value) same)
+ends-at-once b f (obsolete {c = c} none o l s) ys rest e = let same : c ≡ b = cc in absurd (differs isValue f (o .value) same)
+ends-at-once b f (obsolete (more {b = c} x k) o l s) ys rest e = let same : c ≡ b = cc in absurd (differs isValue f (x .value) same)
 
 module _ {r : Rules} (fixed : Fixed r) {z : List ℕ} where
   -- behind a space
@@ -72,9 +65,9 @@ module _ {r : Rules} (fixed : Fixed r) {z : List ℕ} where
   -- where nothing stands behind the code
   cut : {p : ℕ} {u rest : List ℕ} {a : Piece} → r .code-ends-line ≡ true → At z p u rest → Reasoned p u a rest → u ≡ [] → Tail r u (held z a)
   cut x h (plain none s) e = subst (Tail r []) (sym (held-at h)) (short x)
-  cut x h (plain (more y k) s) e = let n : _≡_ {A = ℕ} 0 1 = cc in absurd (omega arith)
-  cut x h (obsolete none o l s) e = let n : _≡_ {A = ℕ} 0 1 = cc in absurd (omega arith)
-  cut x h (obsolete (more y k) o l s) e = let n : _≡_ {A = ℕ} 0 1 = cc in absurd (omega arith)
+  cut x h (plain (more y k) s) e = never cc
+  cut x h (obsolete none o l s) e = never cc
+  cut x h (obsolete (more y k) o l s) e = never cc
 
   pub tail-derived : {q : ℕ} {w u x rest : List ℕ} {a : Piece} → Behind r q w tt x → x ≡ u ++ rest → At z (q + length w) u rest → Reasoned (q + length w) u a rest → Tail r (w ++ u) (held z a)
   tail-derived behind.space e h R = spaced h R

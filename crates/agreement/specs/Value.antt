@@ -10,7 +10,7 @@ use lib.ListN.{length}
 use borrow.Author.Tests.{ne-eqb}
 use Rattle.octets.specs.Grammar.{field-vchar, visible, obsolete, text}
 use Rattle.octets.specs.Class.{among, isBlank, isTarget, isValue}
-use Rattle.octets.proofs.Ties.{target-is-field-vchar, value-is-text}
+use Rattle.octets.specs.Ties.{target-is-field-vchar, value-is-text}
 use Rattle.grammar.specs.Rows.{none, more, some}
 use Rattle.grammar.specs.Fields.{OWS, field-content, field-value}
 use Rattle.grammar.specs.Fields as fields

@@ -14,7 +14,8 @@ use Rattle.reader.specs.Seq.{Then, cross}
 use Rattle.reader.specs.Loop.{Turn, again, done, loop, Fresh}
 use Rattle.reader.specs.Answer.{Answer, got, short, bad, answer, retold, answer-judged, rounds, lapwise, answer-loop}
 use Rattle.reader.specs.Chain.{nothing}
-use Rattle.reader.specs.Branch.{fresh, one, other, lifted}
+use Rattle.reader.specs.Lifted.{lifted}
+use Rattle.reader.specs.Branch.{fresh, one, other}
 use Rattle.octets.specs.Class.{isToken}
 use Rattle.parts.specs.declared.Error.{Error}
 use Rattle.parts.specs.declared.Error.the-variants.{HeaderName, NewLine, TooManyHeaders}

@@ -16,7 +16,7 @@ use Rattle.reader.specs.Laws.{run-in, run-out}
 use Rattle.reader.specs.Answer.{Answer, got, short, bad}
 use Rattle.reader.specs.Chain.{reads}
 use Rattle.octets.specs.Class.{within, isBlank, isDigit, isHexDigit}
-use Rattle.octets.proofs.Table.{same}
+use Rattle.octets.specs.Table.{same}
 use Rattle.rules.specs.Rules.{Rules, default}
 use Rattle.chunks.specs.declared.ChunkSize.{ChunkSize}
 use Rattle.chunks.specs.declared.ChunkSize.the-variants as sizes

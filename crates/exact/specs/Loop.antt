@@ -8,6 +8,7 @@ use lib.ListN.{length, drop, replicate, length-replicate, length-append}
 use lib.Seq.{drop-at}
 use Rattle.reader.specs.Machine.{Run, more, gave, refused, Step, run}
 use Rattle.reader.specs.Loop.{Turn, again, done, loop, Fresh, round, run-loop}
+use Rattle.reader.specs.Tests.{never}
 use Rattle.exact.specs.Exact.{Relation, Part, Exact}
 
 -- laps that each begin with what the one before answered, up to one that answers the end
@@ -38,8 +39,8 @@ module _ {A S B F : Type 0} (start : A → S) (m : A → Step S (Turn A B) F) (f
 
     module _ (a : A) (p : ℕ) (xs : List ℕ) (b : B) (q : ℕ) (e : run (loop start m) (a, start a) p xs ≡ gave b q) where
       lap : (n : ℕ) → length xs ≤ suc n → ((a′ : A) (p′ : ℕ) (ys : List ℕ) → length ys ≤ n → run (loop start m) (a′, start a′) p′ ys ≡ gave b q → Part (Laps G a′) p′ ys b q) → (r : Run S (Turn A B) F) → run (m a) (start a) p xs ≡ r → Part (Laps G a) p xs b q
-      lap n h ih (more t) u = let k = sym (lap-run a p xs) ∙ e in let k′ : _≡_ {A = Run (A × S) B F} (more (a, t)) (gave b q) = rw u at k in let z : _≡_ {A = ℕ} 0 1 = cc in absurd (omega arith)
-      lap n h ih (refused x i) u = let k = sym (lap-run a p xs) ∙ e in let k′ : _≡_ {A = Run (A × S) B F} (refused x i) (gave b q) = rw u at k in let z : _≡_ {A = ℕ} 0 1 = cc in absurd (omega arith)
+      lap n h ih (more t) u = let k = sym (lap-run a p xs) ∙ e in let k′ : _≡_ {A = Run (A × S) B F} (more (a, t)) (gave b q) = rw u at k in never cc
+      lap n h ih (refused x i) u = let k = sym (lap-run a p xs) ∙ e in let k′ : _≡_ {A = Run (A × S) B F} (refused x i) (gave b q) = rw u at k in never cc
       lap n h ih (gave (done c) i) u =
           let k = sym (lap-run a p xs) ∙ e in
           let k′ : _≡_ {A = Run (A × S) B F} (gave c i) (gave b q) = rw u at k in
@@ -65,7 +66,7 @@ module _ {A S B F : Type 0} (start : A → S) (m : A → Step S (Turn A B) F) (f
               }
 
     sound-laps : (n : ℕ) (a : A) (p : ℕ) (xs : List ℕ) (b : B) (q : ℕ) → length xs ≤ n → run (loop start m) (a, start a) p xs ≡ gave b q → Part (Laps G a) p xs b q
-    sound-laps zero a p [] b q h e = let z : _≡_ {A = ℕ} 0 1 = cc in absurd (omega arith)
+    sound-laps zero a p [] b q h e = never cc
     sound-laps zero a p (x ∷ xs) b q h e = absurd (omega arith)
     sound-laps (suc n) a p xs b q h e = lap a p xs b q e n h (λ a′ p′ ys. sound-laps n a′ p′ ys b q) (run (m a) (start a) p xs) refl
 

@@ -9,7 +9,7 @@ use lib.Dec.{eqb}
 use lib.ListN.{length}
 use borrow.Author.Tests.{eqb-true}
 use Rattle.reader.specs.Machine.{Move, gave, after, run}
-use Rattle.reader.specs.Tests.{split, both-true}
+use Rattle.reader.specs.Tests.{split, both-true, never}
 use Rattle.exact.specs.Exact.{Part, Exact}
 use Rattle.parts.specs.declared.Error.{Error}
 use Rattle.rules.specs.Rules.{Rules}
@@ -22,7 +22,7 @@ pub data Behind (r : Rules) (p : ℕ) : List ℕ → Unit {0} → List ℕ → T
 
 module _ (r : Rules) where
   sound-behind : (p : ℕ) (xs : List ℕ) (a : Unit {0}) (q : ℕ) → run (behindCodeStep r) tt p xs ≡ gave a q → Part (Behind r) p xs a q
-  sound-behind p [] a q = λ e. let z : _≡_ {A = ℕ} 0 1 = cc in absurd (omega arith)
+  sound-behind p [] a q = λ e. never cc
   sound-behind p (b ∷ bs) a q =
       let P : Move (Unit {0}) (Unit {0}) Error → Type 0 = λ u. after u p (λ s. run (behindCodeStep r) s (p + 1) bs) ≡ gave a q → Part (Behind r) p (b ∷ bs) a q in
       split P (eqb b 32)
@@ -34,7 +34,7 @@ module _ (r : Rules) where
       let k = both-true (r .code-ends-line && r .lf-alone) (eqb b 10) t in
       let l = both-true (r .code-ends-line) (r .lf-alone) (k .0) in
       let j : p ≡ q = cc in record { w = []; rest = 10 ∷ bs; whole = ap (λ y. y ∷ bs) (eqb-true b 10 (k .1)); place = omega arith; holds = lf (l .0) (l .1) })
-      (λ t e. let z : _≡_ {A = ℕ} 0 1 = cc in absurd (omega arith))))
+      (λ t e. never cc)))
 
   complete-behind : (p : ℕ) (w rest : List ℕ) (a : Unit {0}) → Behind r p w a rest → run (behindCodeStep r) tt p (w ++ rest) ≡ gave a (p + length w)
   complete-behind p w rest a space = refl

@@ -9,7 +9,7 @@ use lib.Dec.{eqb}
 use lib.ListN.{length, length-append}
 use borrow.Author.Tests.{eqb-true}
 use Rattle.reader.specs.Machine.{Move, keep, before, gave, after, run}
-use Rattle.reader.specs.Tests.{split, both-true}
+use Rattle.reader.specs.Tests.{split, both-true, never}
 use Rattle.exact.specs.Exact.{Part, Exact}
 use Rattle.parts.specs.declared.Error.{Error}
 use Rattle.rules.specs.Rules.{Rules}
@@ -57,7 +57,7 @@ module _ (r : Rules) where
     from-cr : Goes cr (emptyLinesStep r cr p b)
     from-cr =
         split (Goes cr) (eqb b 10) (λ t e. (bs, ap (λ y. y ∷ bs) (eqb-true b 10 t), ih start e))
-        (λ t e. let z : _≡_ {A = ℕ} 0 1 = cc in absurd (omega arith))
+        (λ t e. never cc)
 
     behind-cr : r .empty-lines ≡ true → eqb b 13 ≡ true → Left cr (p + 1) bs q → Part (EmptiesAt r) p (b ∷ bs) tt q
     behind-cr h t k =
@@ -76,7 +76,7 @@ module _ (r : Rules) where
         (λ d e. let j : p ≡ q = cc in record { w = []; rest = b ∷ bs; whole = refl; place = omega arith; holds = record { lines = none; stops = record { b = b; ys = bs; whole = refl; no-cr = c; no-lf = d } } }))
 
   sound-empties : (xs : List ℕ) (p q : ℕ) (s : EmptyLines) → run (emptyLinesStep r) s p xs ≡ gave tt q → Left s p xs q
-  sound-empties [] p q s = λ e. let z : _≡_ {A = ℕ} 0 1 = cc in absurd (omega arith)
+  sound-empties [] p q s = λ e. never cc
   sound-empties (b ∷ bs) p q start = from-start b bs p q (λ s. sound-empties bs (p + 1) q s)
   sound-empties (b ∷ bs) p q cr = from-cr b bs p q (λ s. sound-empties bs (p + 1) q s)
 

@@ -7,14 +7,14 @@ use mathlib.Core.List.{List, [], _∷_, _++_, append-assoc}
 use mathlib.Core.Bool.{Bool, true, false, not}
 use lib.ListN.{length, length-append}
 use Rattle.reader.specs.Machine.{gave, after, run}
-use Rattle.reader.specs.Tests.{split}
+use Rattle.reader.specs.Tests.{split, never}
 use Rattle.exact.specs.Exact.{Part, Exact}
 use Rattle.octets.specs.Class.{isValue, isAscii}
 use Rattle.parts.specs.declared.Piece.{Piece}
 use Rattle.parts.specs.Answers.{piece}
 use Rattle.status.specs.Reason.{none, inside, empty, reasonStep}
 use Rattle.grammar.specs.Rows.{Many, none as no-more, more}
-use Rattle.leaves.specs.Rows.{In}
+use Rattle.leaves.specs.Rows.{In, over}
 use Rattle.leaves.specs.Value.{Stop}
 
 -- a text byte that is ASCII, and one that is not
@@ -41,7 +41,7 @@ record Obs (o p : ℕ) (xs : List ℕ) (a : Piece) (q : ℕ) : Type 0 where
   stop : Stop rest
 
 sound-obs : (o : ℕ) (xs : List ℕ) (p : ℕ) (a : Piece) (q : ℕ) → run reasonStep (inside o true) p xs ≡ gave a q → Obs o p xs a q
-sound-obs o [] p a q = λ e. let z : _≡_ {A = ℕ} 0 1 = cc in absurd (omega arith)
+sound-obs o [] p a q = λ e. never cc
 sound-obs o (b ∷ bs) p a q =
     let ih = sound-obs o bs (p + 1) a q in
     split (λ u. after u p (λ s. run reasonStep s (p + 1) bs) ≡ gave a q → Obs o p (b ∷ bs) a q) (isValue b)
@@ -78,7 +78,7 @@ by-ascii o p b bs a q h ih true t e = plain-first o p b bs a q (record { value =
 by-ascii o p b bs a q h ih false t e = obs-first o p b bs a q (record { value = h; not-ascii = t }) (sound-obs o bs (p + 1) a q e)
 
 sound-inside : (o : ℕ) (xs : List ℕ) (p : ℕ) (a : Piece) (q : ℕ) → run reasonStep (inside o false) p xs ≡ gave a q → Left o p xs a q
-sound-inside o [] p a q = λ e. let z : _≡_ {A = ℕ} 0 1 = cc in absurd (omega arith)
+sound-inside o [] p a q = λ e. never cc
 sound-inside o (b ∷ bs) p a q =
     let ih = sound-inside o bs (p + 1) a q in
     split (λ u. after u p (λ s. run reasonStep s (p + 1) bs) ≡ gave a q → Left o p (b ∷ bs) a q) (isValue b)
@@ -90,7 +90,7 @@ reasoned p (plain-rest k) s = plain k s
 reasoned p (obs-rest k d m) s = obsolete k d m s
 
 sound-reason : (p : ℕ) (xs : List ℕ) (a : Piece) (q : ℕ) → run reasonStep none p xs ≡ gave a q → Part Reasoned p xs a q
-sound-reason p [] a q = λ e. let z : _≡_ {A = ℕ} 0 1 = cc in absurd (omega arith)
+sound-reason p [] a q = λ e. never cc
 sound-reason p (b ∷ bs) a q =
     split (λ u. after u p (λ s. run reasonStep s (p + 1) bs) ≡ gave a q → Part Reasoned p (b ∷ bs) a q) (isValue b)
     (λ h e. let k = by-ascii p p b bs a q h (sound-inside p bs (p + 1) a q) (isAscii b) refl e in record { w = k .w; rest = k .rest; whole = k .whole; place = k .behind; holds = reasoned p (k .kind) (k .stop) })
@@ -98,12 +98,10 @@ sound-reason p (b ∷ bs) a q =
 
 -- the other way
 over-plain : (o : ℕ) {w : List ℕ} → Many Plain w → (p : ℕ) (ys : List ℕ) → run reasonStep (inside o false) p (w ++ ys) ≡ run reasonStep (inside o false) (p + length w) ys
-over-plain o no-more p ys = let n : p ≡ p + 0 = omega arith in ap (λ y. run reasonStep (inside o false) y ys) n
-over-plain o (more {b = b} {w = w} h k) p ys = let n : p + 1 + length w ≡ p + suc (length w) = omega arith in rw (h .value, h .ascii) (over-plain o k (p + 1) ys ∙ ap (λ y. run reasonStep (inside o false) y ys) n)
+over-plain o = over reasonStep (inside o false) (λ b h q. rw (h .value, h .ascii))
 
 over-obs : (o : ℕ) {v : List ℕ} → Many (In isValue) v → (p : ℕ) (ys : List ℕ) → run reasonStep (inside o true) p (v ++ ys) ≡ run reasonStep (inside o true) (p + length v) ys
-over-obs o no-more p ys = let n : p ≡ p + 0 = omega arith in ap (λ y. run reasonStep (inside o true) y ys) n
-over-obs o (more {b = b} {w = v} h k) p ys = let n : p + 1 + length v ≡ p + suc (length v) = omega arith in rw h (over-obs o k (p + 1) ys ∙ ap (λ y. run reasonStep (inside o true) y ys) n)
+over-obs o = over reasonStep (inside o true) (λ b h q. rw h)
 
 stop-none : (p : ℕ) (rest : List ℕ) → Stop rest → run reasonStep none p rest ≡ gave (piece p p) p
 stop-none p rest s = rw (s .whole, s .stops)

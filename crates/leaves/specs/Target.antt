@@ -4,15 +4,16 @@ use Prim.Native.Nat.{ℕ, suc, _+_}
 use native.Mathlib.Omega.{arith}
 use mathlib.Core.Path.{_≡_, refl, sym, ap, _∙_}
 use mathlib.Core.List.{List, [], _∷_, _++_, append-assoc}
-use mathlib.Core.Bool.{true, false}
+use mathlib.Core.Bool.{true}
 use lib.Dec.{eqb}
 use lib.ListN.{length, length-append}
 use borrow.Author.Tests.{eqb-true}
 use Rattle.reader.specs.Machine.{Move, gave, more as wants, after, run}
 use Rattle.reader.specs.Laws.{resume}
-use Rattle.reader.specs.Tests.{split}
+use Rattle.reader.specs.Tests.{split, never}
 use Rattle.exact.specs.Exact.{Part, Exact}
-use Rattle.octets.specs.Class.{within, isTarget}
+use Rattle.octets.specs.Class.{isTarget}
+use Rattle.octets.specs.Outside.{space-no-target}
 use Rattle.utf8.specs.Reader.{machine, whole, utf8}
 use Rattle.parts.specs.declared.Error.{Error}
 use Rattle.parts.specs.declared.Piece.{Piece}
@@ -45,7 +46,7 @@ left-more o u p b bs a q h k =
     record { v = b ∷ k .v; ys = k .ys; kind = more h (k .kind); text = rw (resume-fed u p b (k .v)) at (k .text); line = ap (λ y. b ∷ y) (k .line); behind = k .behind ∙ ap (λ y. y + 1) n; place = k .place ∙ ap (piece o) n }
 
 sound-inside : (o : ℕ) (xs : List ℕ) (u : Utf8) (p : ℕ) (a : Piece) (q : ℕ) → run targetStep (inside o u) p xs ≡ gave a q → Left o u p xs a q
-sound-inside o [] u p a q = λ e. let z : _≡_ {A = ℕ} 0 1 = cc in absurd (omega arith)
+sound-inside o [] u p a q = λ e. never cc
 sound-inside o (b ∷ bs) u p a q =
     let G : Move Target Piece Error → Type 0 = λ v. after v p (λ s. run targetStep s (p + 1) bs) ≡ gave a q → Left o u p (b ∷ bs) a q in
     let ih = sound-inside o bs (feed u p b) (p + 1) a q in
@@ -53,8 +54,8 @@ sound-inside o (b ∷ bs) u p a q =
     (λ _. split G (eqb b 32)
     (λ t. split G (whole u)
     (λ g e. let i : piece o p ≡ a = cc in let j : p + 1 ≡ q = cc in let n : p ≡ p + 0 = omega arith in record { v = []; ys = bs; kind = no-more; text = ap whole (resume-none u p) ∙ g; line = ap (λ y. y ∷ bs) (eqb-true b 32 t); behind = sym j ∙ ap (λ y. y + 1) n; place = sym i ∙ ap (piece o) n })
-    (λ g e. let z : _≡_ {A = ℕ} 0 1 = cc in absurd (omega arith)))
-    (λ t e. let z : _≡_ {A = ℕ} 0 1 = cc in absurd (omega arith)))
+    (λ g e. never cc))
+    (λ t e. never cc))
 
 whole-target : (p b : ℕ) (bs : List ℕ) (a : Piece) (q : ℕ) → isTarget b ≡ true → Left p (feed (wants []) p b) (p + 1) bs a q → Part Targeted p (b ∷ bs) a q
 whole-target p b bs a q h k =
@@ -69,18 +70,14 @@ whole-target p b bs a q h k =
     }
 
 sound-target : (p : ℕ) (xs : List ℕ) (a : Piece) (q : ℕ) → run targetStep none p xs ≡ gave a q → Part Targeted p xs a q
-sound-target p [] a q = λ e. let z : _≡_ {A = ℕ} 0 1 = cc in absurd (omega arith)
+sound-target p [] a q = λ e. never cc
 sound-target p (b ∷ bs) a q =
     split (λ u. after u p (λ s. run targetStep s (p + 1) bs) ≡ gave a q → Part Targeted p (b ∷ bs) a q) (isTarget b)
     (λ h e. whole-target p b bs a q h (sound-inside p bs (feed (wants []) p b) (p + 1) a q e))
-    (λ _ e. let z : _≡_ {A = ℕ} 0 1 = cc in absurd (omega arith))
-
-no-space : isTarget 32 ≡ false
-unfolding isTarget within
-no-space = refl
+    (λ _ e. never cc)
 
 complete-inside : (o : ℕ) {v : List ℕ} → Many (In isTarget) v → (u : Utf8) (p : ℕ) (rest : List ℕ) → whole (resume machine u p v) ≡ true → run targetStep (inside o u) p (v ++ (32 ∷ rest)) ≡ gave (piece o (p + length v)) (p + length v + 1)
-complete-inside o no-more u p rest t = let n : p ≡ p + 0 = omega arith in let g : whole u ≡ true = ap whole (sym (resume-none u p)) ∙ t in rw (no-space, g) (ap (λ y. gave (piece o y) (y + 1)) n)
+complete-inside o no-more u p rest t = let n : p ≡ p + 0 = omega arith in let g : whole u ≡ true = ap whole (sym (resume-none u p)) ∙ t in rw (space-no-target, g) (ap (λ y. gave (piece o y) (y + 1)) n)
 complete-inside o (more {b = b} {w = v} h m) u p rest t = let n : p + 1 + length v ≡ p + suc (length v) = omega arith in rw h (complete-inside o m (feed u p b) (p + 1) rest (rw (resume-fed u p b v) t) ∙ ap (λ y. gave (piece o y) (y + 1)) n)
 
 complete-some : {v : List ℕ} → Some (In isTarget) v → (p : ℕ) (rest : List ℕ) → utf8 v ≡ true → run targetStep none p (v ++ (32 ∷ rest)) ≡ gave (piece p (p + length v)) (p + length v + 1)

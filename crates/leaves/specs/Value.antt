@@ -7,7 +7,7 @@ use mathlib.Core.List.{List, [], _∷_, _++_, append-assoc}
 use mathlib.Core.Bool.{Bool, true, false, _||_, cond}
 use lib.ListN.{length, length-append}
 use Rattle.reader.specs.Machine.{Move, gave, after, run}
-use Rattle.reader.specs.Tests.{split}
+use Rattle.reader.specs.Tests.{split, never}
 use Rattle.exact.specs.Exact.{Part, Exact}
 use Rattle.octets.specs.Class.{isBlank, isTarget, isValue}
 use Rattle.parts.specs.declared.Error.{Error}
@@ -15,7 +15,7 @@ use Rattle.parts.specs.declared.Piece.{Piece}
 use Rattle.parts.specs.Answers.{piece}
 use Rattle.values.specs.Value.{Value, blanks, inside, valueStep, blank-value}
 use Rattle.grammar.specs.Rows.{Many, none, more}
-use Rattle.leaves.specs.Rows.{In}
+use Rattle.leaves.specs.Rows.{In, over}
 
 -- a byte of a value that is no blank
 pub record Solid (b : ℕ) : Type 0 where
@@ -62,7 +62,7 @@ left-more : (o e e′ p b : ℕ) (bs : List ℕ) (a : Piece) (q : ℕ) → ((w :
 left-more o e e′ p b bs a q f k = record { w = b ∷ k .w; rest = k .rest; end = k .end; whole = ap (λ y. b ∷ y) (k .whole); behind = omega (arith, k .behind); tail = f (k .w) (k .end) (k .tail); place = k .place; stop = k .stop }
 
 sound-inside : (o : ℕ) (xs : List ℕ) (e p : ℕ) (a : Piece) (q : ℕ) → run valueStep (inside o e) p xs ≡ gave a q → Left o e p xs a q
-sound-inside o [] e p a q = λ h. let z : _≡_ {A = ℕ} 0 1 = cc in absurd (omega arith)
+sound-inside o [] e p a q = λ h. never cc
 sound-inside o (b ∷ bs) e p a q =
     let ih : (n : ℕ) → run valueStep (inside o n) (p + 1) bs ≡ gave a q → Left o n (p + 1) bs a q = λ n. sound-inside o bs n (p + 1) a q in
     split (λ u. after u p (λ s. run valueStep s (p + 1) bs) ≡ gave a q → Left o e p (b ∷ bs) a q) (isValue b)
@@ -93,7 +93,7 @@ from-solid p b {rest = rest} d (solid-tail {m = m} {t = t} {c = c} k e u) s =
     subst (λ z. Valued p ((b ∷ m) ++ (c ∷ []) ++ t) z rest) (ap (λ z. piece z (p + 0 + length ((b ∷ m) ++ (c ∷ [])))) (sym x) ∙ ap (piece p) (sym y)) (full {o = []} {v = (b ∷ m) ++ (c ∷ [])} {t = t} none (two d k e) u s)
 
 sound-value : (xs : List ℕ) (p : ℕ) (a : Piece) (q : ℕ) → run valueStep blanks p xs ≡ gave a q → Part Valued p xs a q
-sound-value [] p a q = λ h. let z : _≡_ {A = ℕ} 0 1 = cc in absurd (omega arith)
+sound-value [] p a q = λ h. never cc
 sound-value (b ∷ bs) p a q =
     let G : Move Value Piece Error → Type 0 = λ u. after u p (λ s. run valueStep s (p + 1) bs) ≡ gave a q → Part Valued p (b ∷ bs) a q in
     let ih = sound-value bs (p + 1) a q in
@@ -108,13 +108,13 @@ sound-value (b ∷ bs) p a q =
     record { w = []; rest = b ∷ bs; whole = refl; place = omega arith; holds = subst (λ z. Valued p [] z (b ∷ bs)) (ap (λ y. piece y y) n ∙ i) (empty none (record { b = b; ys = bs; whole = refl; stops = v })) }))
 
 -- the other way: what each kind of byte does to the machine
-neither : (s t : Bool) → (s || t) ≡ false → s ≡ false
-neither true t e = e
-neither false t e = refl
+left-false : (s t : Bool) → (s || t) ≡ false → s ≡ false
+left-false true t e = e
+left-false false t e = refl
 
 no-value : (b : ℕ) → isValue b ≡ false → isBlank b ≡ false
 unfolding isValue
-no-value b e = neither (isBlank b) (isTarget b) e
+no-value b e = left-false (isBlank b) (isTarget b) e
 
 stop-blanks : (p : ℕ) (rest : List ℕ) → Stop rest → run valueStep blanks p rest ≡ gave (piece p p) p
 stop-blanks p rest s = rw (s .whole, no-value (s .b) (s .stops), s .stops)
@@ -123,12 +123,10 @@ stop-inside : (o e p : ℕ) (rest : List ℕ) → Stop rest → run valueStep (i
 stop-inside o e p rest s = rw (s .whole, s .stops)
 
 over-blanks : {t : List ℕ} → Many (In isBlank) t → (p : ℕ) (ys : List ℕ) → run valueStep blanks p (t ++ ys) ≡ run valueStep blanks (p + length t) ys
-over-blanks none p ys = let n : p ≡ p + 0 = omega arith in ap (λ y. run valueStep blanks y ys) n
-over-blanks (more {b = b} {w = t} h k) p ys = let n : p + 1 + length t ≡ p + suc (length t) = omega arith in rw h (over-blanks k (p + 1) ys ∙ ap (λ y. run valueStep blanks y ys) n)
+over-blanks = over valueStep blanks (λ b h q. rw h)
 
 over-tail : (o e : ℕ) {t : List ℕ} → Many (In isBlank) t → (p : ℕ) (ys : List ℕ) → run valueStep (inside o e) p (t ++ ys) ≡ run valueStep (inside o e) (p + length t) ys
-over-tail o e none p ys = let n : p ≡ p + 0 = omega arith in ap (λ y. run valueStep (inside o e) y ys) n
-over-tail o e (more {b = b} {w = t} h k) p ys = let n : p + 1 + length t ≡ p + suc (length t) = omega arith in rw (blank-value b h, h) (over-tail o e k (p + 1) ys ∙ ap (λ y. run valueStep (inside o e) y ys) n)
+over-tail o e = over valueStep (inside o e) (λ b h q. rw (blank-value b h, h))
 
 -- up to a byte that is no blank, whatever the end was before
 over-core : (o : ℕ) {m : List ℕ} → Many (In isValue) m → (c : ℕ) → Solid c → (e p : ℕ) (ys : List ℕ) → run valueStep (inside o e) p (m ++ (c ∷ ys)) ≡ run valueStep (inside o (p + length m + 1)) (p + length m + 1) ys

@@ -9,13 +9,13 @@ use lib.Dec.{eqb}
 use lib.ListN.{length, length-append}
 use borrow.Author.Tests.{eqb-true, eq-eqb}
 use Rattle.reader.specs.Machine.{Run, gave, after, run}
-use Rattle.reader.specs.Tests.{split}
+use Rattle.reader.specs.Tests.{split, never}
 use Rattle.exact.specs.Exact.{Part, Exact}
 use Rattle.parts.specs.declared.Piece.{Piece}
 use Rattle.parts.specs.Answers.{piece}
 use Rattle.words.specs.Word.{Word, none, some as inside, wordStep}
 use Rattle.grammar.specs.Rows.{Many, none as no-more, more, Some, some}
-use Rattle.leaves.specs.Rows.{In}
+use Rattle.leaves.specs.Rows.{In, over}
 
 -- the bytes v and the byte that ends them; the answer is the piece of v
 pub record Worded (class : ℕ → Bool) (end : ℕ) (p : ℕ) (w : List ℕ) (a : Piece) (rest : List ℕ) : Type 0 where
@@ -40,14 +40,14 @@ module _ {E : Type 0} (class : ℕ → Bool) (end : ℕ) (x : E) (outside : clas
       record { v = b ∷ k .v; ys = k .ys; kind = more h (k .kind); whole = ap (λ y. b ∷ y) (k .whole); behind = k .behind ∙ ap (λ y. y + 1) n; place = k .place ∙ ap (piece o) n }
 
   sound-inside : (o : ℕ) (xs : List ℕ) (p : ℕ) (a : Piece) (q : ℕ) → run (wordStep class end x) (inside o) p xs ≡ gave a q → Left o p xs a q
-  sound-inside o [] p a q = λ e. let z : _≡_ {A = ℕ} 0 1 = cc in absurd (omega arith)
+  sound-inside o [] p a q = λ e. never cc
   sound-inside o (b ∷ bs) p a q =
       let k : Word → Run Word Piece E = λ s. run (wordStep class end x) s (p + 1) bs in
       let ih = sound-inside o bs (p + 1) a q in
       split (λ u. after u p k ≡ gave a q → Left o p (b ∷ bs) a q) (class b) (λ h e. left-more o p b bs a q h (ih e))
       (λ _. split (λ u. after u p k ≡ gave a q → Left o p (b ∷ bs) a q) (eqb b end)
       (λ t e. let i : piece o p ≡ a = cc in let j : p + 1 ≡ q = cc in let n : p ≡ p + 0 = omega arith in record { v = []; ys = bs; kind = no-more; whole = ap (λ y. y ∷ bs) (eqb-true b end t); behind = sym j ∙ ap (λ y. y + 1) n; place = sym i ∙ ap (piece o) n })
-      (λ t e. let z : _≡_ {A = ℕ} 0 1 = cc in absurd (omega arith)))
+      (λ t e. never cc))
 
   whole-word : (p b : ℕ) (bs : List ℕ) (a : Piece) (q : ℕ) → class b ≡ true → Left p (p + 1) bs a q → Part (Worded class end) p (b ∷ bs) a q
   whole-word p b bs a q h k =
@@ -61,15 +61,14 @@ module _ {E : Type 0} (class : ℕ → Bool) (end : ℕ) (x : E) (outside : clas
       }
 
   sound-word : (p : ℕ) (xs : List ℕ) (a : Piece) (q : ℕ) → run (wordStep class end x) none p xs ≡ gave a q → Part (Worded class end) p xs a q
-  sound-word p [] a q = λ e. let z : _≡_ {A = ℕ} 0 1 = cc in absurd (omega arith)
+  sound-word p [] a q = λ e. never cc
   sound-word p (b ∷ bs) a q =
       split (λ u. after u p (λ s. run (wordStep class end x) s (p + 1) bs) ≡ gave a q → Part (Worded class end) p (b ∷ bs) a q) (class b)
       (λ h e. whole-word p b bs a q h (sound-inside p bs (p + 1) a q e))
-      (λ _ e. let z : _≡_ {A = ℕ} 0 1 = cc in absurd (omega arith))
+      (λ _ e. never cc)
 
   complete-inside : (o : ℕ) {v : List ℕ} → Many (In class) v → (p : ℕ) (rest : List ℕ) → run (wordStep class end x) (inside o) p (v ++ (end ∷ rest)) ≡ gave (piece o (p + length v)) (p + length v + 1)
-  complete-inside o no-more p rest = let n : p ≡ p + 0 = omega arith in rw (outside, eq-eqb end end refl) (ap (λ y. gave (piece o y) (y + 1)) n)
-  complete-inside o (more {b = b} {w = v} h m) p rest = let n : p + 1 + length v ≡ p + suc (length v) = omega arith in rw h (complete-inside o m (p + 1) rest ∙ ap (λ y. gave (piece o y) (y + 1)) n)
+  complete-inside o k p rest = over (wordStep class end x) (inside o) (λ b h q. rw h) k p (end ∷ rest) ∙ rw (outside, eq-eqb end end refl)
 
   complete-some : {v : List ℕ} → Some (In class) v → (p : ℕ) (rest : List ℕ) → run (wordStep class end x) none p (v ++ (end ∷ rest)) ≡ gave (piece p (p + length v)) (p + length v + 1)
   complete-some (some {b = b} {w = v} h m) p rest = let n : p + 1 + length v ≡ p + suc (length v) = omega arith in rw h (complete-inside p m (p + 1) rest ∙ ap (λ y. gave (piece p y) (y + 1)) n)

@@ -9,7 +9,7 @@ use mathlib.Core.Bool.{Bool, true, false, _&&_, _||_, false≢true}
 use Rattle.reader.specs.Tests.{both-true}
 use Rattle.octets.specs.Grammar as bytes
 use Rattle.octets.specs.Class.{within, isToken, isTarget, isValue}
-use Rattle.octets.proofs.Ties.{in-range, target-is-field-vchar}
+use Rattle.octets.specs.Ties.{in-range, target-is-field-vchar}
 use Rattle.rules.specs.Rules.{Rules}
 use Rattle.grammar.specs.Rows.{Many, none, more, Some, some}
 use Rattle.grammar.specs.Fields.{token, field-value, Field}

@@ -8,7 +8,7 @@ use mathlib.Core.List.{List, [], _∷_, _++_}
 use mathlib.Core.Bool.{false≢true}
 use Rattle.octets.specs.Class.{among, within, isDigit, isBlank, isToken, isTarget, isValue}
 use Rattle.octets.specs.Grammar as bytes
-use Rattle.octets.proofs.Ties.{in-range}
+use Rattle.octets.specs.Ties.{in-range}
 use Rattle.rules.specs.Rules.{strict}
 use Rattle.grammar.specs.Rows.{none, more, some}
 use Rattle.grammar.specs.Fields.{Field}

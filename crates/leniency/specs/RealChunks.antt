@@ -9,31 +9,23 @@ use lib.Dec.{eqb}
 use lib.ListN.{length}
 use borrow.Author.Tests.{eqb-false}
 use Rattle.reader.specs.Machine.{refused, run}
+use Rattle.reader.specs.Tests.{clash, never}
 use Rattle.octets.specs.Grammar.{HEXDIG, blank, tchar}
 use Rattle.octets.specs.Grammar as bytes
 use Rattle.octets.specs.Class.{among, within, isDigit, isHexDigit, isBlank, isToken}
-use Rattle.octets.proofs.Ties.{in-range, blank-is-blank, hex-digit-is-HEXDIG}
+use Rattle.octets.specs.Ties.{in-range, blank-is-blank, hex-digit-is-HEXDIG, token-is-tchar}
+use Rattle.octets.specs.Outside.{differs, cr-no-blank, semicolon-no-blank, cr-no-digit, semicolon-no-digit, space-no-digit, cr-no-token}
 use Rattle.rules.specs.Rules.{Rules, default}
 use Rattle.grammar.specs.Rows.{Many, none, more, Some, some}
 use Rattle.grammar.specs.Message.{CRLF}
 use Rattle.grammar.specs.Chunked.{hexadecimal, chunk-size, chunk-ext, behind-size, chunk-line}
 use Rattle.grammar.specs.Chunked as chunked
 use Rattle.chunks.specs.Chunk.{digits, chunkStep}
-use Rattle.agreement.specs.Starts.{clash}
 use Rattle.agreement.specs.ChunkRead.{chunk-read}
 use Rattle.leniency.specs.Text.{ascii}
 use Rattle.leniency.specs.Strict.{hexadecimal-row, size-row}
 use Rattle.leniency.specs.Real.{Real, Restricts, Chunk}
-use Rattle.leniency.specs.Shapes.{same-head, same-tail, no-token}
-
-not-digit : {b : ℕ} (c : ℕ) → isHexDigit c ≡ false → HEXDIG b → b ≡ c → ⊥
-not-digit {b} c f h e = clash (hex-digit-is-HEXDIG b .1 h) (ap isHexDigit e ∙ f)
-
-not-blank : {b : ℕ} (c : ℕ) → isBlank c ≡ false → blank b → b ≡ c → ⊥
-not-blank {b} c f h e = clash (blank-is-blank b .1 h) (ap isBlank e ∙ f)
-
-not-token : {b : ℕ} (c : ℕ) → isToken c ≡ false → tchar b → b ≡ c → ⊥
-not-token {b} c f h e = no-token {c = c} f h e
+use Rattle.leniency.specs.Shapes.{same-head, same-tail}
 
 -- what is behind a size: nothing; blanks, where they are allowed; or a semicolon behind blanks
 data View (r : Rules) : List ℕ → Type 0 where
@@ -59,9 +51,9 @@ view (chunked.behind-size.any {o = o} {w = w} t h k) =
 begins : {r : Rules} {x : List ℕ} (b : ℕ) → isBlank b ≡ false → eqb 59 b ≡ false → eqb 13 b ≡ false → View r x → (zs ys : List ℕ) → x ++ (13 ∷ zs) ≡ b ∷ ys → ⊥
 begins b f g h nothing zs ys e = eqb-false 13 b h (same-head e)
 begins b f g h (blanks t none) zs ys e = eqb-false 13 b h (same-head e)
-begins b f g h (blanks t (more y l)) zs ys e = not-blank b f y (same-head e)
+begins b f g h (blanks t (more {b = c} y l)) zs ys e = differs isBlank f (blank-is-blank c .1 y) (same-head e)
 begins b f g h (semicolon w none q) zs ys e = eqb-false 59 b g (same-head (ap (λ y. y ++ (13 ∷ zs)) (sym q) ∙ e))
-begins b f g h (semicolon w (more y l) q) zs ys e = not-blank b f y (same-head (ap (λ y. y ++ (13 ∷ zs)) (sym q) ∙ e))
+begins b f g h (semicolon w (more {b = c} y l) q) zs ys e = differs isBlank f (blank-is-blank c .1 y) (same-head (ap (λ y. y ++ (13 ∷ zs)) (sym q) ∙ e))
 
 -- a line that starts with the digit 0 and another byte that is none: what is behind the size
 behind-zero : {r : Rules} {s x : List ℕ} {n : ℕ} (b : ℕ) (ys : List ℕ) → isHexDigit b ≡ false → chunk-size r s n → behind-size r x → s ++ x ++ CRLF ≡ 48 ∷ b ∷ ys → x ++ CRLF ≡ b ∷ ys
@@ -71,16 +63,15 @@ behind-zero {r} {s} {x} b ys f k d e = by (size-row k) e
     by : {s : List ℕ} → Many HEXDIG s → s ++ x ++ CRLF ≡ 48 ∷ b ∷ ys → x ++ CRLF ≡ b ∷ ys
     by none q = absurd (begins 48 refl refl refl (view d) (10 ∷ []) (b ∷ ys) q)
     by (more h none) q = same-tail q
-    by (more h (more g l)) q = absurd (not-digit b f g (same-head (same-tail q)))
+    by (more h (more {b = c} g l)) q = absurd (differs isHexDigit f (hex-digit-is-HEXDIG c .1 g) (same-head (same-tail q)))
 
 -- blank-behind-size
 no-blanks : {r : Rules} {x : List ℕ} → r .blank-behind-size ≡ false → View r x → x ++ CRLF ≡ 32 ∷ 13 ∷ 10 ∷ [] → ⊥
-unfolding isBlank among
 no-blanks f nothing e = eqb-false 13 32 refl (same-head e)
 no-blanks f (blanks t o) e = clash t f
 no-blanks f (semicolon w none q) e = eqb-false 59 32 refl (same-head (ap (λ y. y ++ CRLF) (sym q) ∙ e))
 no-blanks f (semicolon w (more y none) q) e = eqb-false 59 13 refl (same-head (same-tail (ap (λ y. y ++ CRLF) (sym q) ∙ e)))
-no-blanks f (semicolon w (more y (more z l)) q) e = not-blank 13 refl z (same-head (same-tail (ap (λ y. y ++ CRLF) (sym q) ∙ e)))
+no-blanks f (semicolon w (more y (more {b = c} z l)) q) e = differs isBlank cr-no-blank (blank-is-blank c .1 z) (same-head (same-tail (ap (λ y. y ++ CRLF) (sym q) ∙ e)))
 
 zero : {w : List ℕ} {n : ℕ} → hexadecimal w n → hexadecimal (w ++ (48 ∷ [])) (n * 16 + 0)
 unfolding within
@@ -90,8 +81,7 @@ one-zero-digit : {r : Rules} → chunk-size r (ascii "0") 0
 one-zero-digit = chunked.chunk-size.digits (zero chunked.hexadecimal.none) (omega arith) (λ _. omega arith)
 
 no-blank-line : {r : Rules} {w : List ℕ} {n : ℕ} → r .blank-behind-size ≡ false → chunk-line r w n → w ≡ ascii "0 \r\n" → ⊥
-unfolding isHexDigit isDigit within
-no-blank-line f (chunked.chunk-line.line k d) e = no-blanks f (view d) (behind-zero 32 (ascii "\r\n") refl k d e)
+no-blank-line f (chunked.chunk-line.line k d) e = no-blanks f (view d) (behind-zero 32 (ascii "\r\n") space-no-digit k d e)
 
 pub blank-behind-size-real : Real (λ r. r .blank-behind-size) (Chunk (ascii "0 \r\n"))
 blank-behind-size-real = (
@@ -101,36 +91,32 @@ blank-behind-size-real = (
 
 -- any-extension
 no-names : {b n : List ℕ} → Many blank b → Some tchar n → (zs ys : List ℕ) → b ++ (n ++ zs) ≡ 13 ∷ ys → ⊥
-unfolding isBlank isToken isDigit within among
-no-names none (some h k) zs ys e = not-token 13 refl h (same-head e)
-no-names (more h l) k zs ys e = not-blank 13 refl h (same-head e)
+no-names none (some {b = c} h k) zs ys e = differs isToken cr-no-token (token-is-tchar c .1 h) (same-head e)
+no-names (more {b = c} h l) k zs ys e = differs isBlank cr-no-blank (blank-is-blank c .1 h) (same-head e)
 
 no-extension : {r : Rules} {x : List ℕ} → r .any-extension ≡ false → behind-size r x → x ++ CRLF ≡ 59 ∷ 13 ∷ 10 ∷ [] → ⊥
-unfolding isBlank among
 no-extension f (chunked.behind-size.extension chunked.chunk-ext.none) e = eqb-false 13 59 refl (same-head e)
 no-extension f (chunked.behind-size.extension (chunked.chunk-ext.name {b = b} {n = n} {x = x} none k m y)) e = let q : b ++ n ++ x ++ CRLF ≡ 13 ∷ 10 ∷ [] = same-tail e in no-names k m (x ++ CRLF) (10 ∷ []) (simp append-assoc at q)
-no-extension f (chunked.behind-size.extension (chunked.chunk-ext.name (more y l) k m x)) e = not-blank 59 refl y (same-head e)
+no-extension f (chunked.behind-size.extension (chunked.chunk-ext.name (more {b = c} y l) k m x)) e = differs isBlank semicolon-no-blank (blank-is-blank c .1 y) (same-head e)
 no-extension f (chunked.behind-size.extension (chunked.chunk-ext.value {b = b} {n = n} {c = c} {d = d} {v = v} {x = x} none k m i j u y)) e = let q : b ++ n ++ c ++ chunked.equals ++ d ++ v ++ x ++ CRLF ≡ 13 ∷ 10 ∷ [] = same-tail e in no-names k m (c ++ (chunked.equals ++ (d ++ (v ++ (x ++ CRLF))))) (10 ∷ []) (simp append-assoc at q)
-no-extension f (chunked.behind-size.extension (chunked.chunk-ext.value (more y l) k m i j v x)) e = not-blank 59 refl y (same-head e)
+no-extension f (chunked.behind-size.extension (chunked.chunk-ext.value (more {b = c} y l) k m i j v x)) e = differs isBlank semicolon-no-blank (blank-is-blank c .1 y) (same-head e)
 no-extension f (chunked.behind-size.blanks t none) e = eqb-false 13 59 refl (same-head e)
-no-extension f (chunked.behind-size.blanks t (more y l)) e = not-blank 59 refl y (same-head e)
+no-extension f (chunked.behind-size.blanks t (more {b = c} y l)) e = differs isBlank semicolon-no-blank (blank-is-blank c .1 y) (same-head e)
 no-extension f (chunked.behind-size.any t o w) e = clash t f
 
 no-extension-line : {r : Rules} {w : List ℕ} {n : ℕ} → r .any-extension ≡ false → chunk-line r w n → w ≡ ascii "0;\r\n" → ⊥
-unfolding isHexDigit isDigit within
-no-extension-line f (chunked.chunk-line.line k d) e = no-extension f d (behind-zero 59 (ascii "\r\n") refl k d e)
+no-extension-line f (chunked.chunk-line.line k d) e = no-extension f d (behind-zero 59 (ascii "\r\n") semicolon-no-digit k d e)
 
 pub any-extension-real : Real (λ r. r .any-extension) (Chunk (ascii "0;\r\n"))
 any-extension-real = (λ r t. (0, chunked.chunk-line.line one-zero-digit (chunked.behind-size.any t none none)), λ r f d. no-extension-line f (d .1) refl)
 
 -- no-digit
 no-size : {r : Rules} {s : List ℕ} {n : ℕ} → r .no-digit ≡ false → chunk-size r s n → (zs ys : List ℕ) → s ++ zs ≡ 13 ∷ ys → ⊥
-unfolding isHexDigit isDigit within
 no-size f (chunked.chunk-size.digits h l g) zs ys e = by (hexadecimal-row h) l e
   where
     by : {s : List ℕ} → Many HEXDIG s → 1 ≤ length s → s ++ zs ≡ 13 ∷ ys → ⊥
     by none m q = omega (arith, m)
-    by (more x k) m q = not-digit 13 refl x (same-head q)
+    by (more {b = c} x k) m q = differs isHexDigit cr-no-digit (hex-digit-is-HEXDIG c .1 x) (same-head q)
 no-size f (chunked.chunk-size.no-digit t) zs ys e = clash t f
 
 no-size-line : {r : Rules} {w : List ℕ} {n : ℕ} → r .no-digit ≡ false → chunk-line r w n → w ≡ ascii "\r\n" → ⊥
@@ -162,5 +148,5 @@ refuses = refl
 pub sixteen-digits-real : Restricts (λ r. r .sixteen-digits) (Chunk seventeen)
 sixteen-digits-real = (
   λ r f. (0, chunked.chunk-line.line (chunked.chunk-size.digits (zero (zero (zero (zero (zero (zero (zero (zero (zero (zero (zero (zero (zero (zero (zero (zero (zero chunked.hexadecimal.none))))))))))))))))) (omega arith) (λ t. absurd (clash t f))) (chunked.behind-size.extension chunked.chunk-ext.none)),
-  λ r t d. let e = sym refuses ∙ chunk-read (in-default t (d .1)) [] in let n : _≡_ {A = ℕ} 0 1 = cc in omega arith,
+  λ r t d. let e = sym refuses ∙ chunk-read (in-default t (d .1)) [] in never cc,
 )

@@ -7,29 +7,29 @@ use mathlib.Core.List.{List, [], _∷_, _++_, append-assoc}
 use mathlib.Core.Bool.{true, false}
 use lib.Dec.{eqb}
 use borrow.Author.Tests.{eqb-false}
-use Rattle.octets.specs.Grammar.{DIGIT, tchar}
+use Rattle.reader.specs.Tests.{clash, never}
+use Rattle.octets.specs.Grammar.{DIGIT}
 use Rattle.octets.specs.Grammar as bytes
-use Rattle.octets.specs.Class.{among, within, isDigit, isToken}
-use Rattle.octets.proofs.Ties.{in-range}
+use Rattle.octets.specs.Class.{within, isToken}
+use Rattle.octets.specs.Ties.{in-range, token-is-tchar}
+use Rattle.octets.specs.Outside.{differs, lf-no-token, space-no-token}
 use Rattle.utf8.specs.Grammar as characters
 use Rattle.rules.specs.Rules.{Rules}
 use Rattle.grammar.specs.Rows.{none, more, some}
 use Rattle.grammar.specs.Fields.{Field}
 use Rattle.grammar.specs.Message.{line-end, crlf, lf, empty-lines, one-zero, other, request-target, RequestLine, request-line, status-code, reason-phrase, StatusLine, status-line, field-line, header-block, head, request-head, response-head}
 use Rattle.grammar.specs.Message as grammar
-use Rattle.agreement.specs.Starts.{clash}
 use Rattle.agreement.specs.Tail.{Tail}
 use Rattle.agreement.specs.Tail as tails
 use Rattle.leniency.specs.Text.{ascii}
 use Rattle.leniency.specs.Real.{Real, Restricts, Request, Response, Headers}
-use Rattle.leniency.specs.Shapes.{same-head, same-tail, no-token, shape, answer, behind-code}
+use Rattle.leniency.specs.Shapes.{same-head, same-tail, shape, answer, behind-code}
 
 -- lf-alone
 no-lf : {r : Rules} {w : List ℕ} {fs : List Field} → r .lf-alone ≡ false → header-block r w fs → w ≡ ascii "\n" → ⊥
-unfolding isToken isDigit within among
 no-lf f (grammar.header-block.end crlf) e = let q : _≡_ {A = ℕ} 13 10 = cc in omega (arith, q)
 no-lf f (grammar.header-block.end (lf t)) e = clash t f
-no-lf f (grammar.header-block.field (grammar.field-line.line (some {b = b} h k) o v t) d x) e = let q : b ≡ 10 = cc in no-token {c = 10} refl h q
+no-lf f (grammar.header-block.field (grammar.field-line.line (some {b = b} h k) o v t) d x) e = let q : b ≡ 10 = cc in differs isToken lf-no-token (token-is-tchar b .1 h) q
 
 pub lf-alone-real : Real (λ r. r .lf-alone) (Headers (ascii "\n"))
 lf-alone-real = (λ r t. ([], grammar.header-block.end (lf t)), λ r f d. no-lf f (d .1) refl)
@@ -100,8 +100,8 @@ no-end b f g crlf zs ys e = eqb-false 13 b f (same-head e)
 no-end b f g (lf t) zs ys e = eqb-false 10 b g (same-head e)
 
 no-given : {r : Rules} {w g : List ℕ} → r .obs-reason ≡ false → reason-phrase r w g → g ≡ [] → ⊥
-no-given f (grammar.reason-phrase.plain (some x k)) e = let n : _≡_ {A = ℕ} 0 1 = cc in omega arith
-no-given f (grammar.reason-phrase.whole t (some x k)) e = let n : _≡_ {A = ℕ} 0 1 = cc in omega arith
+no-given f (grammar.reason-phrase.plain (some x k)) e = never cc
+no-given f (grammar.reason-phrase.whole t (some x k)) e = never cc
 no-given f (grammar.reason-phrase.emptied t k o l) e = clash t f
 
 no-emptied : {r : Rules} {t g c : List ℕ} → r .obs-reason ≡ false → Tail r t g → g ≡ [] → line-end r c → (zs ys : List ℕ) → t ++ (c ++ zs) ≡ 32 ∷ 0x80 ∷ ys → ⊥
@@ -126,17 +126,13 @@ no-empty-lines : {r : Rules} {e : List ℕ} (b : ℕ) → eqb 13 b ≡ false →
 no-empty-lines b f g grammar.empty-lines.none zs ys e = refl
 no-empty-lines b f g (grammar.empty-lines.more {e = c} {w = w} t k l) zs ys e = absurd (no-end b f g k (w ++ zs) ys (sym (append-assoc c w zs) ∙ e))
 
-no-token-space : {b : ℕ} → tchar b → b ≡ 32 → ⊥
-unfolding isToken isDigit within among
-no-token-space h = no-token {c = 32} refl h
-
 no-visible : {r : Rules} {t : List ℕ} → r .any-target ≡ false → request-target r t → (zs ys : List ℕ) → t ++ zs ≡ 0xC2 ∷ ys → ⊥
 no-visible f (grammar.request-target.visible (some {b = b} h k)) zs ys e = omega (arith, h .high, same-head e)
 no-visible f (grammar.request-target.any t k u) zs ys e = clash t f
 
 no-line : {r : Rules} {w : List ℕ} {l : RequestLine} → r .any-target ≡ false → request-line r w l → (zs ys : List ℕ) → w ++ zs ≡ 65 ∷ 32 ∷ 0xC2 ∷ ys → ⊥
 no-line f (grammar.request-line.line {t = t} {v = v} (some h none) k n) zs ys e = let q : t ++ grammar.space ++ v ++ zs ≡ 0xC2 ∷ ys = same-tail (same-tail e) in no-visible f k (grammar.space ++ (v ++ zs)) ys (simp append-assoc at q)
-no-line f (grammar.request-line.line (some h (more x l)) k n) zs ys e = no-token-space x (same-head (same-tail e))
+no-line f (grammar.request-line.line (some h (more {b = b} x l)) k n) zs ys e = differs isToken space-no-token (token-is-tchar b .1 x) (same-head (same-tail e))
 
 no-accent : {r : Rules} {w : List ℕ} {l : RequestLine} {fs : List Field} → r .any-target ≡ false → request-head r w l fs → (ys : List ℕ) → w ≡ 65 ∷ 32 ∷ 0xC2 ∷ ys → ⊥
 no-accent f (grammar.head.message {e = e} {w = v} {c = c} {b = b} empty d k x) ys q =

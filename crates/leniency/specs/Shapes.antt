@@ -5,15 +5,12 @@ use native.Mathlib.Omega.{arith}
 use mathlib.Core.Path.{_≡_, refl, sym, ap, _∙_}
 use mathlib.Core.List.{List, [], _∷_, _++_, append-assoc}
 use mathlib.Core.Bool.{true, false}
-use Rattle.octets.specs.Grammar.{tchar}
-use Rattle.octets.specs.Class.{isToken}
-use Rattle.octets.proofs.Ties.{token-is-tchar}
+use Rattle.reader.specs.Tests.{clash}
 use Rattle.rules.specs.Rules.{Rules}
 use Rattle.grammar.specs.Rows.{none, more}
 use Rattle.grammar.specs.Fields.{Field}
 use Rattle.grammar.specs.Message.{line-end, crlf, lf, empty-lines, Version, HTTP-version, one-zero, one-one, other, status-code, StatusLine, status-line, head, response-head}
 use Rattle.grammar.specs.Message as grammar
-use Rattle.agreement.specs.Starts.{clash}
 use Rattle.agreement.specs.Tail.{Tail, line-parts}
 
 pub same-head : {a b : ℕ} {xs ys : List ℕ} → a ∷ xs ≡ b ∷ ys → a ≡ b
@@ -21,10 +18,6 @@ same-head e = cc
 
 pub same-tail : {a b : ℕ} {xs ys : List ℕ} → a ∷ xs ≡ b ∷ ys → xs ≡ ys
 same-tail e = cc
-
--- a byte that no token has
-pub no-token : {b c : ℕ} → isToken c ≡ false → tchar b → b ≡ c → ⊥
-no-token {b} f h e = clash (token-is-tchar b .1 h) (ap isToken e ∙ f)
 
 -- a status line byte by byte, up to its code
 pub record Shape (r : Rules) (w : List ℕ) (l : StatusLine) : Type 0 where

@@ -1,4 +1,2 @@
-pub mod Table
 pub mod Tests
-pub mod Ties
 pub mod Examples

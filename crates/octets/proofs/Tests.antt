@@ -6,7 +6,7 @@ use mathlib.Core.Path.{_≡_, refl}
 use mathlib.Core.Bool.{false, _&&_, _||_, not}
 use lib.Dec.{eqb, leb, ltb}
 use Rattle.octets.specs.Class.{among, within, isAscii, isBlank, isDigit, isHexDigit, isTarget, isToken, isValue}
-use Rattle.octets.proofs.Table.{same, same-from}
+use Rattle.octets.specs.Table.{same, same-from}
 
 module _ (b : ℕ) where
   pub token-low : b < 64 → eqb ((0x03ff_6cfa_0000_0000 / 2 ^ b) % 2) 1 ≡ isToken b

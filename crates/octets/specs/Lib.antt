@@ -1,2 +1,5 @@
 pub mod Grammar
 pub mod Class
+pub mod Table
+pub mod Ties
+pub mod Outside

@@ -11,6 +11,7 @@ use Rattle.reader.specs.Answer.{Answer, got, short, bad, verdict, retold, round
 use Rattle.reader.specs.Chain.{nothing}
 use Rattle.reader.specs.Branch.{fresh}
 use Rattle.reader.specs.Tests.{split}
+use Rattle.reader.specs.Later.{Later, same, waited, later}
 use Rattle.rules.specs.Rules.{Rules}
 use Rattle.parts.specs.declared.Error.{Error}
 use Rattle.fields.specs.declared.Header.{Header}
@@ -18,7 +19,6 @@ use Rattle.fields.specs.Line.{Kind, header, end, lineStep, line}
 use Rattle.blocks.specs.Slots.{numbers, flat, filled, length-flat}
 use Rattle.blocks.specs.Block.{taken, block, block-line, given}
 use Rattle.agreement.specs.Fields.{line-within, given-all}
-use Rattle.onereading.specs.Later.{Later, same, waited, later}
 
 -- all begins with these
 pub record Starts (hs all : List Header) : Type 0 where

@@ -6,6 +6,7 @@ use mathlib.Core.Path.{_≡_, refl, sym, ap, subst, _∙_}
 use mathlib.Core.List.{List, _++_}
 use lib.ListN.{length, take, drop}
 use lib.Seq.{take-at, drop-at}
+use Rattle.reader.specs.Tests.{never}
 use Rattle.reader.specs.Machine.{gave, run}
 use Rattle.reader.specs.Answer.{got}
 use Rattle.rules.specs.Rules.{default}
@@ -65,7 +66,7 @@ counts-same numbers.NotYet h i = absurd h
 version-one : {w : List ℕ} {v : Version} → HTTP-version default w v → (v .major ≡ 1) × (v .minor ≤ 9)
 version-one one-zero = (refl, omega arith)
 version-one one-one = (refl, omega arith)
-version-one (grammar.HTTP-version.other t a b) = let n : _≡_ {A = ℕ} 0 1 = cc in absurd (omega arith)
+version-one (grammar.HTTP-version.other t a b) = never cc
 
 three-digits : {w : List ℕ} {n : ℕ} → status-code default w n → n ≤ 999
 three-digits (grammar.status-code.class x y z) = omega (arith, x .high, y .high, z .high)

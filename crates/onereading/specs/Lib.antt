@@ -1,5 +1,4 @@
 pub mod Statements
-pub mod Later
 pub mod Lines
 pub mod Blocks
 pub mod Stays

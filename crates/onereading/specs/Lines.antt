@@ -4,6 +4,8 @@ use Prim.Native.Nat.{ℕ}
 use mathlib.Core.Path.{refl, subst}
 use mathlib.Core.List.{List, _++_}
 use Rattle.reader.specs.Chain.{nothing}
+use Rattle.reader.specs.Known.{knownOf}
+use Rattle.reader.specs.Later.{Later, later, and-later, ended-later, last-keeps, last-grows, chain-keeps, chain-grows}
 use Rattle.octets.specs.Class.{isToken}
 use Rattle.rules.specs.Rules.{Rules}
 use Rattle.parts.specs.declared.Error.the-variants.{NewLine, Status, Token, Version}
@@ -28,9 +30,7 @@ use Rattle.requestline.specs.declared.RequestLine.{RequestLine}
 use Rattle.requestline.specs.RequestLine as requests
 use Rattle.statusline.specs.declared.StatusLine.{StatusLine}
 use Rattle.statusline.specs.StatusLine as statuses
-use Rattle.agreement.specs.Inside.{knownOf}
 use Rattle.onereading.specs.Statements.{SamePiece, SameNumber, SameRequest, SameStatus}
-use Rattle.onereading.specs.Later.{Later, later, and-later, ended-later, last-keeps, last-grows, chain-keeps, chain-grows}
 
 piece-refl : (a : KnownPiece) → SamePiece a a
 piece-refl (pieces.Is a) = refl

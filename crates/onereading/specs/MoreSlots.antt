@@ -29,9 +29,9 @@ use Rattle.heads.specs.Head.{Heads, over, headed, head-parts, given, Told}
 use Rattle.heads.specs.Head as heads
 use Rattle.heads.specs.Calls.{request, response}
 use Rattle.agreement.specs.Fields.{line-within}
-use Rattle.agreement.specs.Inside.{knownOf}
+use Rattle.reader.specs.Known.{knownOf}
 use Rattle.agreement.specs.Exactly.{given-over}
-use Rattle.agreement.specs.Kept.{same-bad, told-line}
+use Rattle.agreement.specs.Kept.{told-bad, told-line}
 use Rattle.agreement.specs.Calls.{alone-told}
 use Rattle.onereading.specs.Statements.{MoreSlots}
 use Rattle.onereading.specs.Blocks.{Starts, starts-refl, block-keeps}
@@ -92,7 +92,7 @@ module _ {K : Type 0} where
   wider-told : {a b : Heads K} {end end′ : Passed} {line line′ : K} {count count′ : ℕ} {old old′ new new′ : List ℕ} → Wider a b → Told a end line count old new → Told b end′ line′ count′ old′ new′ → MoreSlots end end′ line line′ count count′ old′ new new′
   wider-told (Wider.same {a = a}) T U = let u = told-same T U in record { enough = λ _. (u .0, u .2, u .3); known = u .1; given = first-headers (starts-refl (given a)) T U }
   wider-told {end = p} {line = line} (Wider.full {k = k} {hs = hs} e s) T U = record {
-    enough = λ x. absurd (x (same-bad p line k hs hs TooManyHeaders (T .answer) .0));
+    enough = λ x. absurd (x (told-bad p line k hs hs TooManyHeaders (T .answer) .0));
     known = sym (told-line U) ∙ e ∙ told-line T;
     given = first-headers s T U;
   }

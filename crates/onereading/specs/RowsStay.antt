@@ -6,6 +6,7 @@ use mathlib.Core.Path.{_≡_, refl, sym, ap, subst, _∙_}
 use mathlib.Core.List.{List, _∷_, _++_, append-assoc}
 use lib.ListN.{length, take, drop, length-append}
 use lib.Seq.{take-at}
+use Rattle.reader.specs.Tests.{never}
 use Rattle.reader.specs.Answer.{bad}
 use Rattle.rules.specs.Rules.{default}
 use Rattle.grammar.specs.Fields.{Field}
@@ -34,15 +35,15 @@ record Wrong {L K : Type 0} (Head : List ℕ → L → List Field → Type 0) (r
 module _ {L K : Type 0} {Head : List ℕ → L → List Field → Type 0} {read : ℕ → List ℕ → Heads K} {n : ℕ} {rest : List ℕ} {count room : ℕ} {left : List ℕ} where
   stopped-wrong : {slots : List ℕ} {x : Stop} {e : Error} → Stopped Head read n rest count room left x slots → x ≡ stops.Bad e → Wrong Head read n rest count room e
   stopped-wrong {e = e} (wrong {e = f} a y z l m) h = let g : f ≡ e = cc in record { ends = subst (λ k. Ends (read n rest) (Bad k)) g a; none-fits = y; long = l; room-left = m }
-  stopped-wrong (all-read r) h = let z : _≡_ {A = ℕ} 0 1 = cc in absurd (omega arith)
-  stopped-wrong (full r l) h = let z : _≡_ {A = ℕ} 0 1 = cc in absurd (omega arith)
-  stopped-wrong (unfinished a y l m) h = let z : _≡_ {A = ℕ} 0 1 = cc in absurd (omega arith)
+  stopped-wrong (all-read r) h = never cc
+  stopped-wrong (full r l) h = never cc
+  stopped-wrong (unfinished a y l m) h = never cc
 
   -- a reading that has that error stops with it
   stops-wrong : {slots : List ℕ} {x : Stop} {k : Known K} {e : Error} → Stopped Head read n rest count room left x slots → read n rest ≡ bad (e, k) → 1 ≤ length rest → count < room → x ≡ stops.Bad e
   stops-wrong (all-read r) h l m = absurd (omega (arith, l, ap length r))
   stops-wrong (full r i) h l m = absurd (omega (arith, r, m))
-  stops-wrong (unfinished a y i j) h l m = let c = a .1 ∙ h in let z : _≡_ {A = ℕ} 0 1 = cc in absurd (omega arith)
+  stops-wrong (unfinished a y i j) h l m = let c = a .1 ∙ h in never cc
   stops-wrong {k = k} {e = e} (wrong {e = f} a y z i j) h l m = let u : _≡_ {A = Error × Known K} (f, a .0) (e, k) = by (a .1 ∙ h) in ap (λ y. stops.Bad (y .0)) u
     where
       by : {x y : Error × Known K} → _≡_ {A = Heads K} (bad x) (bad y) → x ≡ y

@@ -5,11 +5,14 @@ use native.Mathlib.Omega.{arith}
 use mathlib.Core.Path.{_≡_, refl, sym, ap, subst, _∙_}
 use mathlib.Core.List.{List, [], _++_}
 use lib.ListN.{length, take, drop, length-append}
+use Rattle.reader.specs.Tests.{never}
 use Rattle.reader.specs.Machine.{Step, runAt}
 use Rattle.reader.specs.Seq.{first}
 use Rattle.reader.specs.Answer.{Answer, got, short, bad, answer, lapwise}
 use Rattle.reader.specs.Chain.{nothing}
 use Rattle.reader.specs.Branch.{fresh}
+use Rattle.reader.specs.Known.{knownOf}
+use Rattle.reader.specs.Later.{Later, same, waited, later}
 use Rattle.rules.specs.Rules.{Rules, default}
 use Rattle.parts.specs.declared.Error.{Error}
 use Rattle.parts.specs.declared.Passed.{Passed}
@@ -30,12 +33,10 @@ use Rattle.heads.specs.Calls.{request, response}
 use Rattle.chunks.specs.declared.ChunkSize.{ChunkSize}
 use Rattle.chunks.specs.declared.ChunkSize.the-variants as sizes
 use Rattle.chunks.specs.Chunk.{digits, chunkStep, chunk, sizeOf}
-use Rattle.agreement.specs.Inside.{knownOf}
 use Rattle.agreement.specs.Exactly.{given-over, head-line}
 use Rattle.agreement.specs.Kept.{told-line}
 use Rattle.agreement.specs.Calls.{alone, alone-told}
 use Rattle.onereading.specs.Statements.{SameRequest, SameStatus, NoLine, HeadStays, ChunkStays}
-use Rattle.onereading.specs.Later.{Later, same, waited, later}
 use Rattle.onereading.specs.Lines.{request-line-grows, status-line-grows}
 use Rattle.onereading.specs.Blocks.{Starts, block-grows, slots-same, slots-again}
 
@@ -51,18 +52,18 @@ module _ {K : Type 0} where
       tells (At q) (At q′) line line′ hs e = let u : _≡_ {A = Known K} (line, hs) (line′, hs) = cc in (cc, sym (ap (λ y. y .0) u))
       tells More More line line′ hs e = let u : _≡_ {A = Known K} (line, hs) (line′, hs) = cc in (refl, sym (ap (λ y. y .0) u))
       tells (Bad x) (Bad x′) line line′ hs e = let u : _≡_ {A = Error × Known K} (x, (line, hs)) (x′, (line′, hs)) = cc in (ap (λ y. Bad (y .0)) (sym u), sym (ap (λ y. y .1 .0) u))
-      tells (At q) More line line′ hs e = let n : _≡_ {A = ℕ} 0 1 = cc in absurd (omega arith)
-      tells (At q) (Bad x) line line′ hs e = let n : _≡_ {A = ℕ} 0 1 = cc in absurd (omega arith)
-      tells More (At q) line line′ hs e = let n : _≡_ {A = ℕ} 0 1 = cc in absurd (omega arith)
-      tells More (Bad x) line line′ hs e = let n : _≡_ {A = ℕ} 0 1 = cc in absurd (omega arith)
-      tells (Bad x) (At q) line line′ hs e = let n : _≡_ {A = ℕ} 0 1 = cc in absurd (omega arith)
-      tells (Bad x) More line line′ hs e = let n : _≡_ {A = ℕ} 0 1 = cc in absurd (omega arith)
+      tells (At q) More line line′ hs e = never cc
+      tells (At q) (Bad x) line line′ hs e = never cc
+      tells More (At q) line line′ hs e = never cc
+      tells More (Bad x) line line′ hs e = never cc
+      tells (Bad x) (At q) line line′ hs e = never cc
+      tells (Bad x) More line line′ hs e = never cc
 
   -- how a call ended where the reader waited
   told-more : (end : Passed) (k : Known K) (u : Known K) → _≡_ {A = Heads K} (tell end k) (short u) → end ≡ More
-  told-more (At q) k u e = let n : _≡_ {A = ℕ} 0 1 = cc in absurd (omega arith)
+  told-more (At q) k u e = never cc
   told-more More k u e = refl
-  told-more (Bad x) k u e = let n : _≡_ {A = ℕ} 0 1 = cc in absurd (omega arith)
+  told-more (Bad x) k u e = never cc
 
   decides : {a b : Heads K} {end end′ : Passed} {line line′ : K} {count count′ : ℕ} {old old′ new new′ : List ℕ} → Later a b → Told a end line count old new → Told b end′ line′ count′ old′ new′ → (end ≡ More → ⊥) → (end′ ≡ end) × (line′ ≡ line) × (count′ ≡ count) × (new′ ≡ take (count * 4) new ++ drop (count * 4) old′)
   decides same T U n = told-same T U
@@ -127,17 +128,17 @@ size-same : (r r′ : ChunkSize) → sizeOf r ≡ sizeOf r′ → r′ ≡ r
 size-same (sizes.Complete q n) (sizes.Complete p m) e = cc
 size-same sizes.Incomplete sizes.Incomplete e = refl
 size-same sizes.Invalid sizes.Invalid e = refl
-size-same (sizes.Complete q n) sizes.Incomplete e = let z : _≡_ {A = ℕ} 0 1 = cc in absurd (omega arith)
-size-same (sizes.Complete q n) sizes.Invalid e = let z : _≡_ {A = ℕ} 0 1 = cc in absurd (omega arith)
-size-same sizes.Incomplete (sizes.Complete p m) e = let z : _≡_ {A = ℕ} 0 1 = cc in absurd (omega arith)
-size-same sizes.Incomplete sizes.Invalid e = let z : _≡_ {A = ℕ} 0 1 = cc in absurd (omega arith)
-size-same sizes.Invalid (sizes.Complete p m) e = let z : _≡_ {A = ℕ} 0 1 = cc in absurd (omega arith)
-size-same sizes.Invalid sizes.Incomplete e = let z : _≡_ {A = ℕ} 0 1 = cc in absurd (omega arith)
+size-same (sizes.Complete q n) sizes.Incomplete e = never cc
+size-same (sizes.Complete q n) sizes.Invalid e = never cc
+size-same sizes.Incomplete (sizes.Complete p m) e = never cc
+size-same sizes.Incomplete sizes.Invalid e = never cc
+size-same sizes.Invalid (sizes.Complete p m) e = never cc
+size-same sizes.Invalid sizes.Incomplete e = never cc
 
 size-waits : (r : ChunkSize) {u : Unit {0}} → sizeOf r ≡ short u → r ≡ sizes.Incomplete
-size-waits (sizes.Complete q n) e = let z : _≡_ {A = ℕ} 0 1 = cc in absurd (omega arith)
+size-waits (sizes.Complete q n) e = never cc
 size-waits sizes.Incomplete e = refl
-size-waits sizes.Invalid e = let z : _≡_ {A = ℕ} 0 1 = cc in absurd (omega arith)
+size-waits sizes.Invalid e = never cc
 
 chunk-by : {a b : Answer (Unit {0}) ℕ (Unit {0})} {r r′ : ChunkSize} → Later a b → sizeOf r ≡ a → sizeOf r′ ≡ b → (r ≡ sizes.Incomplete → ⊥) → r′ ≡ r
 chunk-by {r = r} {r′ = r′} same T U n = size-same r r′ (T ∙ sym U)

@@ -10,7 +10,7 @@ use borrow.Author.Tests.{ne-eqb}
 use Rattle.reader.specs.Machine.{keep, give, refuse, Step}
 use Rattle.reader.specs.Laws.{run-in, run-out}
 use Rattle.reader.specs.Answer.{Answer, got, short, bad}
-use Rattle.reader.specs.Chain.{reads}
+use Rattle.reader.specs.Chain.{reads, reads-none}
 use Rattle.rules.specs.Rules.{Rules, default}
 
 -- at the end, or behind its CR
@@ -25,9 +25,6 @@ abbrev pub lineEnd : {E : Type 0} → Rules → E → List ℕ → ℕ → Answe
 lineEnd r e xs at = reads (lineEndStep r e) begin xs at
 
 module _ {E : Type 0} (e : E) (xs : List ℕ) (at : ℕ) where
-  pub line-end-none : length xs ≤ at → short tt ≡ lineEnd default e xs at
-  line-end-none h = rw (run-out (lineEndStep default e) begin xs at h)
-
   module _ (h : at < length xs) where
     pub line-end-lf : getD xs at 0 ≡ 10 → got tt (at + 1) ≡ lineEnd default e xs at
     line-end-lf b = rw (run-in (lineEndStep default e) begin xs at h, b)
@@ -45,4 +42,4 @@ module _ {E : Type 0} (e : E) (xs : List ℕ) (at : ℕ) where
       pub line-end-bare : at + 1 < length xs → (getD xs (at + 1) 0 ≡ 10 → ⊥) → bad e ≡ lineEnd default e xs at
       line-end-bare l b = rw (run-in (lineEndStep default e) begin xs at h, c, run-in (lineEndStep default e) cr xs (at + 1) l, ne-eqb _ _ b)
 
-pub ruleset line-ends = (line-end-none, line-end-lf, line-end-not, line-end-cut, line-end-crlf, line-end-bare)
+pub ruleset line-ends = (reads-none, line-end-lf, line-end-not, line-end-cut, line-end-crlf, line-end-bare)

@@ -4,9 +4,10 @@ use mathlib.Core.Path.{_≡_, refl, ap, _∙_}
 use mathlib.Core.List.{List, [], _∷_, _++_}
 use Prim.Native.Nat.{ℕ, _+_}
 use Rattle.reader.specs.Machine.{Move, keep, give, before, refuse, Run, more, gave, refused, Step, after, run, runAt}
-use Rattle.reader.specs.Laws.{gave-stays, refused-stays}
+use Rattle.reader.specs.Laws.{refused-stays}
 use Rattle.reader.specs.Judged.{Verdict, pass, fail, given, left, moved, judged}
-use Rattle.reader.specs.Seq.{Then, first, second, seq, carried, bind, run-seq}
+use Rattle.reader.specs.Lifted.{ran}
+use Rattle.reader.specs.Seq.{Then, first, second, seq, bind, run-seq}
 use Rattle.reader.specs.Loop.{Turn, again, done, loop, Fresh, round, run-loop}
 
 -- an answer, and where the next byte is; the bytes ran out, and what is known by then; a refusal
@@ -33,12 +34,15 @@ module _ {S U A F : Type 0} (known : S → U) where
   answered-bad (gave b p) e = (0, cc)
   answered-bad (refused x p) e = (p, cc)
 
-  -- an answer never changes when more bytes arrive
-  pub got-stays : (m : Step S A F) (bs cs : List ℕ) (s : S) (p : ℕ) {a : A} {q : ℕ} → answer (run m s p bs) ≡ got a q → answer (run m s p (bs ++ cs)) ≡ got a q
-  got-stays m bs cs s p e = ap answer (gave-stays m bs cs s p (answered _ e))
-
+  -- a refusal never changes when more bytes arrive
   pub bad-stays : (m : Step S A F) (bs cs : List ℕ) (s : S) (p : ℕ) {e : F} → answer (run m s p bs) ≡ bad e → answer (run m s p (bs ++ cs)) ≡ bad e
   bad-stays m bs cs s p e = let w = answered-bad _ e in ap answer (refused-stays m bs cs s p (w .1))
+
+-- a run in the states of a larger machine answers the same
+pub answer-ran : {S T U A F : Type 0} (f : S → T) (known : T → U) (r : Run S A F) → answer known (ran f r) ≡ answer (λ s. known (f s)) r
+answer-ran f known (more s) = refl
+answer-ran f known (gave a q) = refl
+answer-ran f known (refused e q) = refl
 
 -- a part's answer in a larger machine's words
 module _ {U W A B E F : Type 0} (h : U → W) (f : A → Verdict B F) (g : E → F) where
@@ -92,14 +96,9 @@ module _ {S A T U : Type 0} (known : S → U) (known′ : A → T → U) where
   either (first s) = known s
   either (second a t) = known′ a t
 
-  answer-carried : {B F : Type 0} (a : A) (r : Run T B F) → answer either (carried a r) ≡ answer (known′ a) r
-  answer-carried a (more t) = refl
-  answer-carried a (gave b q) = refl
-  answer-carried a (refused e q) = refl
-
   answer-bind : {B F : Type 0} (r : Run S A F) (k : A → ℕ → Run T B F) → answer either (bind r k) ≡ and (answer known r) (λ a q. answer (known′ a) (k a q))
   answer-bind (more s) k = refl
-  answer-bind (gave a q) k = answer-carried a (k a q)
+  answer-bind (gave a q) k = answer-ran (second a) either (k a q)
   answer-bind (refused e q) k = refl
 
   pub answer-seq : {B F : Type 0} (m : Step S A F) (start : A → T) (n : A → Step T B F) (s : S) (xs : List ℕ) (p : ℕ) → answer either (runAt (seq m start n) (first s) xs p) ≡ and (answer known (runAt m s xs p)) (λ a q. answer (known′ a) (runAt (n a) (start a) xs q))

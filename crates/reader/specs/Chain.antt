@@ -2,9 +2,12 @@
 -- Assumes nothing.
 use mathlib.Core.Path.{_≡_, refl, ap, _∙_}
 use mathlib.Core.List.{List}
-use Prim.Native.Nat.{ℕ}
-use lib.ListN.{drop}
-use Rattle.reader.specs.Machine.{Step, runAt}
+use mathlib.Core.Bool.{Bool, true}
+use Prim.Native.Nat.{ℕ, zero, suc, _+_, _-_, _≤_, _<_}
+use native.Mathlib.Omega.{arith}
+use lib.ListN.{length, getD, drop}
+use Rattle.reader.specs.Machine.{keep, Step, runAt}
+use Rattle.reader.specs.Laws.{run-in, run-out}
 use Rattle.reader.specs.Judged.{pass, judged}
 use Rattle.reader.specs.Seq.{first, seq}
 use Rattle.reader.specs.Answer.{Answer, got, short, bad, answer, retold, answer-judged, and, either, answer-seq}
@@ -16,6 +19,19 @@ nothing s = tt
 -- what reading a part at a position answers
 abbrev pub reads : {S A E : Type 0} → Step S A E → S → List ℕ → ℕ → Answer (Unit {0}) A E
 reads m s xs p = answer nothing (runAt m s xs p)
+
+-- at the end of the input it wants more
+pub reads-none : {S A E : Type 0} (m : Step S A E) (s : S) (xs : List ℕ) (i : ℕ) → length xs ≤ i → short tt ≡ reads m s xs i
+reads-none m s xs i h = rw (run-out m s xs i h)
+
+-- so it does where bytes of a class lead there, each from a state of a kind to another of it
+module _ {S A E X : Type 0} (m : Step S A E) (class : ℕ → Bool) (state : X → S) (next : X → ℕ → ℕ → X) (leads : (x : X) (q b : ℕ) → class b ≡ true → m (state x) q b ≡ keep (state (next x q b))) (xs : List ℕ) where
+  out-by : (d i : ℕ) (x : X) → i + d ≡ length xs → ((k : ℕ) → i ≤ k → k < length xs → class (getD xs k 0) ≡ true) → short tt ≡ reads m (state x) xs i
+  out-by zero i x e g = reads-none m (state x) xs i (omega arith)
+  out-by (suc d) i x e g = rw (run-in m (state x) xs i (omega arith), leads x i (getD xs i 0) (g i (omega arith) (omega arith))) (out-by d (i + 1) (next x i (getD xs i 0)) (omega arith) (λ k lo hi. g k (omega arith) hi))
+
+  pub reads-out : (i : ℕ) (x : X) → i ≤ length xs → ((k : ℕ) → i ≤ k → k < length xs → class (getD xs k 0) ≡ true) → short tt ≡ reads m (state x) xs i
+  reads-out i x h = out-by (length xs - i) i x (omega arith)
 
 -- the last part of something that is known but for its end
 abbrev pub ended : {A C E : Type 0} → C → Answer (Unit {0}) A E → Answer (Unit {0}) C E

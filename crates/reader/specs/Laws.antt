@@ -8,6 +8,7 @@ use native.Mathlib.Nat.{add-zero}
 use lib.ListN.{length, getD, drop-of-length-le}
 use Rattle.reader.specs.Machine.{Move, keep, give, before, refuse, Run, more, gave, refused, Step, after, run, runAt}
 use Rattle.reader.specs.Bytes.{drop-in}
+use Rattle.reader.specs.Tests.{never}
 
 module _ {S A F : Type 0} (m : Step S A F) where
   -- one step at a position within the input, and none at its end
@@ -48,19 +49,19 @@ module _ {S A F : Type 0} (m : Step S A F) where
   gave-step bs p (keep s) ih e = omega (arith, ih s e)
   gave-step bs p (give b) {a} {q} ih e = let h : p + 1 ≡ q = cc in omega arith
   gave-step bs p (before b) {a} {q} ih e = let h : p ≡ q = cc in omega arith
-  gave-step bs p (refuse x) ih e = let z : _≡_ {A = ℕ} 0 1 = cc in omega arith
+  gave-step bs p (refuse x) ih e = never cc
 
   pub gave-within : (bs : List ℕ) (s : S) (p : ℕ) {a : A} {q : ℕ} → run m s p bs ≡ gave a q → (p ≤ q) × (q ≤ p + length bs)
-  gave-within [] s p e = let z : _≡_ {A = ℕ} 0 1 = cc in omega arith
+  gave-within [] s p e = never cc
   gave-within (b ∷ bs) s p e = gave-step bs p (m s p b) (λ s′ e′. gave-within bs s′ (p + 1) e′) e
 
   -- a refusal is of a byte of the input
   refused-step : (bs : List ℕ) (p : ℕ) (v : Move S A F) {x : F} {q : ℕ} → ((s : S) → run m s (p + 1) bs ≡ refused x q → (p + 1 ≤ q) × (q < p + 1 + length bs)) → after v p (λ s. run m s (p + 1) bs) ≡ refused x q → (p ≤ q) × (q < p + suc (length bs))
   refused-step bs p (keep s) ih e = omega (arith, ih s e)
-  refused-step bs p (give b) ih e = let z : _≡_ {A = ℕ} 0 1 = cc in omega arith
-  refused-step bs p (before b) ih e = let z : _≡_ {A = ℕ} 0 1 = cc in omega arith
+  refused-step bs p (give b) ih e = never cc
+  refused-step bs p (before b) ih e = never cc
   refused-step bs p (refuse y) {x} {q} ih e = let h : p ≡ q = cc in omega arith
 
   pub refused-within : (bs : List ℕ) (s : S) (p : ℕ) {x : F} {q : ℕ} → run m s p bs ≡ refused x q → (p ≤ q) × (q < p + length bs)
-  refused-within [] s p e = let z : _≡_ {A = ℕ} 0 1 = cc in omega arith
+  refused-within [] s p e = never cc
   refused-within (b ∷ bs) s p e = refused-step bs p (m s p b) (λ s′ e′. refused-within bs s′ (p + 1) e′) e

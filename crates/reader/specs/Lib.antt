@@ -3,9 +3,13 @@ pub mod Bytes
 pub mod Laws
 pub mod Skip
 pub mod Judged
+pub mod Lifted
 pub mod Seq
 pub mod Loop
 pub mod Answer
 pub mod Chain
 pub mod Branch
 pub mod Tests
+pub mod Refusals
+pub mod Known
+pub mod Later

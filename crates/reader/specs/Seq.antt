@@ -6,6 +6,7 @@ use Prim.Native.Nat.{ℕ, _+_}
 use lib.ListN.{drop}
 use Rattle.reader.specs.Machine.{Move, keep, give, before, refuse, Run, more, gave, refused, Step, after, run, runAt}
 use Rattle.reader.specs.Bytes.{drop-tail}
+use Rattle.reader.specs.Lifted.{lifted, ran, run-lifted}
 
 -- in the first machine, or in the second behind an answer of the first
 pub data Then (S A T : Type 0) : Type 0 where
@@ -13,46 +14,26 @@ pub data Then (S A T : Type 0) : Type 0 where
   second : A → T → Then S A T
 
 module _ {S A T B F : Type 0} where
-  -- a move of the second machine, as one of both
-  abbrev pub onward : A → Move T B F → Move (Then S A T) B F
-  onward a (keep t) = keep (second a t)
-  onward a (give b) = give b
-  onward a (before b) = before b
-  onward a (refuse e) = refuse e
-
   -- a move of the first machine, as one of both: a byte that it leaves is read by the second, whose move on it is k
   abbrev pub cross : Move S A F → (A → T) → (A → Move T B F) → Move (Then S A T) B F
   cross (keep s) start k = keep (first s)
   cross (give a) start k = keep (second a (start a))
-  cross (before a) start k = onward a (k a)
+  cross (before a) start k = lifted (second a) (k a)
   cross (refuse e) start k = refuse e
 
   abbrev pub seq : Step S A F → (A → T) → (A → Step T B F) → Step (Then S A T) B F
   seq m start n (first s) p b = cross (m s p b) start (λ a. n a (start a) p b)
-  seq m start n (second a t) p b = onward a (n a t p b)
-
-  -- a run of the second machine, as one of both
-  abbrev pub carried : A → Run T B F → Run (Then S A T) B F
-  carried a (more t) = more (second a t)
-  carried a (gave b q) = gave b q
-  carried a (refused e q) = refused e q
+  seq m start n (second a t) p b = lifted (second a) (n a t p b)
 
   -- a run of the first machine, and of the second from where the first answered
   abbrev pub bind : Run S A F → (A → ℕ → Run T B F) → Run (Then S A T) B F
   bind (more s) k = more (first s)
-  bind (gave a q) k = carried a (k a q)
+  bind (gave a q) k = ran (second a) (k a q)
   bind (refused e q) k = refused e q
 
   module _ (m : Step S A F) (start : A → T) (n : A → Step T B F) where
-    carried-step : (a : A) (bs : List ℕ) (p : ℕ) (v : Move T B F) → ((t : T) → run (seq m start n) (second a t) (p + 1) bs ≡ carried a (run (n a) t (p + 1) bs)) → after (onward a v) p (λ s′. run (seq m start n) s′ (p + 1) bs) ≡ carried a (after v p (λ t. run (n a) t (p + 1) bs))
-    carried-step a bs p (keep t) ih = ih t
-    carried-step a bs p (give b) ih = refl
-    carried-step a bs p (before b) ih = refl
-    carried-step a bs p (refuse e) ih = refl
-
-    pub run-second : (a : A) (bs : List ℕ) (t : T) (p : ℕ) → run (seq m start n) (second a t) p bs ≡ carried a (run (n a) t p bs)
-    run-second a [] t p = refl
-    run-second a (b ∷ bs) t p = carried-step a bs p (n a t p b) (λ t′. run-second a bs t′ (p + 1))
+    pub run-second : (a : A) (bs : List ℕ) (t : T) (p : ℕ) → run (seq m start n) (second a t) p bs ≡ ran (second a) (run (n a) t p bs)
+    run-second a = run-lifted (second a) (n a) (seq m start n) (λ t p b. refl)
 
     bind-step : (xs : List ℕ) (b : ℕ) (bs : List ℕ) (p : ℕ) → drop p xs ≡ b ∷ bs → (v : Move S A F) → ((s : S) → run (seq m start n) (first s) (p + 1) bs ≡ bind (run m s (p + 1) bs) (λ a q. runAt (n a) (start a) xs q)) → after (cross v start (λ a. n a (start a) p b)) p (λ s′. run (seq m start n) s′ (p + 1) bs) ≡ bind (after v p (λ s′. run m s′ (p + 1) bs)) (λ a q. runAt (n a) (start a) xs q)
     bind-step xs b bs p e (keep s) ih = ih s

@@ -1,6 +1,6 @@
 -- The single space that parts two parts of a status line (RFC 9112, 4).
 -- Assumes nothing.
-use Prim.Native.Nat.{ℕ, _+_, _≤_, _<_}
+use Prim.Native.Nat.{ℕ, _+_, _<_}
 use mathlib.Core.Path.{_≡_}
 use mathlib.Core.List.{List}
 use mathlib.Core.Bool.{_&&_, cond}
@@ -8,9 +8,9 @@ use lib.Dec.{eqb}
 use lib.ListN.{length, getD}
 use borrow.Author.Tests.{ne-eqb}
 use Rattle.reader.specs.Machine.{give, before, refuse, Step}
-use Rattle.reader.specs.Laws.{run-in, run-out}
-use Rattle.reader.specs.Answer.{Answer, got, short, bad}
-use Rattle.reader.specs.Chain.{reads}
+use Rattle.reader.specs.Laws.{run-in}
+use Rattle.reader.specs.Answer.{Answer, got, bad}
+use Rattle.reader.specs.Chain.{reads, reads-none}
 use Rattle.parts.specs.declared.Error.{Error}
 use Rattle.parts.specs.declared.Error.the-variants.{Status}
 use Rattle.rules.specs.Rules.{Rules, default}
@@ -23,9 +23,6 @@ abbrev pub space : {E : Type 0} → E → List ℕ → ℕ → Answer (Unit {0})
 space e xs at = reads (spaceStep e) tt xs at
 
 module _ {E : Type 0} (e : E) (xs : List ℕ) (at : ℕ) where
-  pub space-none : length xs ≤ at → short tt ≡ space e xs at
-  space-none h = rw (run-out (spaceStep e) tt xs at h)
-
   pub space-there : at < length xs → getD xs at 0 ≡ 32 → got tt (at + 1) ≡ space e xs at
   space-there h b = rw (run-in (spaceStep e) tt xs at h, b)
 
@@ -43,9 +40,6 @@ abbrev pub behindCode : Rules → List ℕ → ℕ → Answer (Unit {0}) (Unit {
 behindCode r xs at = reads (behindCodeStep r) tt xs at
 
 module _ (xs : List ℕ) (at : ℕ) where
-  pub behind-none : length xs ≤ at → short tt ≡ behindCode default xs at
-  behind-none h = rw (run-out (behindCodeStep default) tt xs at h)
-
   module _ (h : at < length xs) where
     pub behind-space : getD xs at 0 ≡ 32 → got tt (at + 1) ≡ behindCode default xs at
     behind-space b = rw (run-in (behindCodeStep default) tt xs at h, b)
@@ -59,4 +53,4 @@ module _ (xs : List ℕ) (at : ℕ) where
     pub behind-not : (getD xs at 0 ≡ 32 → ⊥) → (getD xs at 0 ≡ 13 → ⊥) → (getD xs at 0 ≡ 10 → ⊥) → bad Status ≡ behindCode default xs at
     behind-not a b c = rw (run-in (behindCodeStep default) tt xs at h, ne-eqb _ _ a, ne-eqb _ _ b, ne-eqb _ _ c)
 
-pub ruleset spaces = (space-none, space-there, space-not, behind-none, behind-space, behind-cr, behind-lf, behind-not)
+pub ruleset spaces = (reads-none, space-there, space-not, behind-space, behind-cr, behind-lf, behind-not)

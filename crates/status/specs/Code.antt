@@ -9,7 +9,7 @@ use Rattle.reader.specs.Machine.{keep, give, refuse, Step}
 use Rattle.reader.specs.Skip.{told-true, told-false}
 use Rattle.reader.specs.Laws.{run-in, run-out}
 use Rattle.reader.specs.Answer.{Answer, got, short, bad}
-use Rattle.reader.specs.Chain.{reads}
+use Rattle.reader.specs.Chain.{reads, reads-none}
 use Rattle.octets.specs.Class.{isDigit}
 use Rattle.parts.specs.declared.Error.{Error}
 use Rattle.parts.specs.declared.Error.the-variants.{Status}
@@ -32,9 +32,6 @@ abbrev pub code : List ℕ → ℕ → Answer (Unit {0}) ℕ Error
 code xs at = reads codeStep none xs at
 
 module _ (xs : List ℕ) (at : ℕ) where
-  pub code-none : length xs ≤ at → short tt ≡ code xs at
-  code-none h = rw (run-out codeStep none xs at h)
-
   pub code-not : at < length xs → isDigit (getD xs at 0) ≡ false → bad Status ≡ code xs at
   code-not h d = rw (run-in codeStep none xs at h, d)
 
@@ -56,4 +53,4 @@ module _ (xs : List ℕ) (at : ℕ) where
         pub code-three : isDigit (getD xs (at + 1 + 1) 0) ≡ true → {a b v : ℕ} → a ≡ onto 0 (getD xs at 0) → b ≡ onto a (getD xs (at + 1) 0) → v ≡ onto b (getD xs (at + 1 + 1) 0) → got v (at + 1 + 1 + 1) ≡ code xs at
         code-three f x y z = rw (run-in codeStep none xs at h, d, run-in codeStep (one (onto 0 (getD xs at 0))) xs (at + 1) l, c, run-in codeStep (two (onto (onto 0 (getD xs at 0)) (getD xs (at + 1) 0))) xs (at + 1 + 1) u, f, z, y, x)
 
-pub ruleset codes = (code-none, code-not, code-one, code-one-not, code-two, code-two-not, code-three, told-true, told-false)
+pub ruleset codes = (reads-none, code-not, code-one, code-one-not, code-two, code-two-not, code-three, told-true, told-false)

@@ -1,6 +1,6 @@
 -- A reason phrase: any number of text bytes (RFC 9112, 4), given as empty where one of them is from 0x80 on.
 -- Assumes nothing.
-use Prim.Native.Nat.{ℕ, zero, suc, _+_, _-_, _≤_, _<_}
+use Prim.Native.Nat.{ℕ, _+_, _≤_, _<_}
 use native.Mathlib.Decide.{decLt}
 use native.Mathlib.Omega.{arith}
 use mathlib.Core.Path.{_≡_, sym, ap, _∙_}
@@ -12,7 +12,7 @@ use Rattle.reader.specs.Machine.{keep, before, Step, runAt}
 use Rattle.reader.specs.Skip.{Passed, Skipped, passed-part, skip}
 use Rattle.reader.specs.Laws.{run-in, run-out}
 use Rattle.reader.specs.Answer.{Answer, got, short}
-use Rattle.reader.specs.Chain.{reads}
+use Rattle.reader.specs.Chain.{reads, reads-out}
 use Rattle.reader.specs.Tests.{both-true}
 use Rattle.octets.specs.Class.{isValue, isAscii}
 use Rattle.parts.specs.declared.Error.{Error}
@@ -47,11 +47,6 @@ module _ (xs : List ℕ) (a : ℕ) where
   obs-passed : {i j : ℕ} → i ≤ length xs → Passed isValue xs i j → runAt reasonStep (inside a true) xs i ≡ runAt reasonStep (inside a true) xs j
   obs-passed l v = skip reasonStep isValue (inside a true) (λ q b e. rw e) xs l v
 
-  -- to the end of the input, whatever the bytes
-  inside-out : (d i : ℕ) (obs : Bool) → i + d ≡ length xs → ((k : ℕ) → i ≤ k → k < length xs → isValue (getD xs k 0) ≡ true) → short tt ≡ reads reasonStep (inside a obs) xs i
-  inside-out zero i obs e v = rw (run-out reasonStep (inside a obs) xs i (omega arith))
-  inside-out (suc d) i obs e v = rw (run-in reasonStep (inside a obs) xs i (omega arith), v i (omega arith) (omega arith)) (inside-out d (i + 1) _ (omega arith) (λ k lo hi. v k (omega arith) hi))
-
 -- the bytes before r are r
 pub part-size : (r : ℕ) (xs : List ℕ) → r < length xs → r ≡ length (take r xs)
 part-size r xs l = sym (length-take-le r xs (omega (arith, l)))
@@ -80,9 +75,8 @@ module _ (xs : List ℕ) (at : ℕ) {r : ℕ} (v : Skipped isValue xs at r) wher
     where
       go : Dec (at < length xs) → short tt ≡ reason xs at
       go (yes h) =
-          let d : at + 1 + (length xs - (at + 1)) ≡ length xs = omega arith in
           rw (run-in reasonStep none xs at h, v .passed .all at (omega arith) (omega arith))
-          (inside-out xs at (length xs - (at + 1)) (at + 1) _ d (λ k lo hi. v .passed .all k (omega arith) (omega arith)))
+          (reads-out reasonStep isValue (inside at) (λ obs q b. obs || not (isAscii b)) (λ obs q b e. rw e) xs (at + 1) _ (omega arith) (λ k lo hi. v .passed .all k (omega arith) (omega arith)))
       go (no h) = rw (run-out reasonStep none xs at (omega arith))
 
   module _ {q : ℕ} (k : Skipped isAscii (take r xs) at q) (l : r < length xs) where

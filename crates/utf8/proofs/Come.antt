@@ -16,7 +16,7 @@ use Rattle.utf8.specs.declared.Awaited.{Awaited}
 use Rattle.utf8.specs.declared.Moved.{Moved}
 use Rattle.utf8.specs.declared.Moved.the-variants.{Keep, Refuse}
 use Rattle.utf8.specs.Reader.{tail, lead, step, machine, whole, utf8}
-use Rattle.utf8.specs.Code.{awaiting, state, moved}
+use Rattle.utf8.specs.Values.{awaiting, state, moved}
 
 -- the machine's step, by how many bytes are awaited
 pub step-first : (n lo hi b : ℕ) → n ≡ 0 → lead b ≡ step (awaiting n lo hi) b

@@ -1,3 +1,5 @@
 pub mod Grammar
 pub mod Reader
-pub mod Code
+pub mod Values
+pub mod Rows
+pub mod Exact

@@ -1,7 +1,7 @@
 // Whether bytes are well-formed UTF-8, as RFC 3629, section 4, has it.
 ghost use mathlib.Core.Path.{_≡_};
 ghost use Rattle.utf8.specs.Reader.{lead as leadOf, step as stepOf, utf8};
-ghost use Rattle.utf8.specs.Code.{moved, state};
+ghost use Rattle.utf8.specs.Values.{moved, state};
 
 // How many bytes of a character are still to come, and the range of the next.
 pub struct Awaited {

@@ -11,7 +11,7 @@ use Rattle.reader.specs.Machine.{keep, before, Step, runAt}
 use Rattle.reader.specs.Skip.{Passed, Skipped, skip}
 use Rattle.reader.specs.Laws.{run-in, run-out}
 use Rattle.reader.specs.Answer.{Answer, got, short}
-use Rattle.reader.specs.Chain.{reads}
+use Rattle.reader.specs.Chain.{reads, reads-out}
 use Rattle.octets.specs.Class.{isBlank, isValue}
 use Rattle.parts.specs.declared.Error.{Error}
 use Rattle.parts.specs.declared.Piece.{Piece}
@@ -36,11 +36,6 @@ unfolding isValue
 blank-value b e = rw e
 
 module _ (xs : List ℕ) (v : ℕ) where
-  -- to the end of the input
-  inside-out : (d i e : ℕ) → i + d ≡ length xs → ((k : ℕ) → i ≤ k → k < length xs → isValue (getD xs k 0) ≡ true) → short tt ≡ reads valueStep (inside v e) xs i
-  inside-out zero i e h g = rw (run-out valueStep (inside v e) xs i (omega arith))
-  inside-out (suc d) i e h g = rw (run-in valueStep (inside v e) xs i (omega arith), g i (omega arith) (omega arith)) (inside-out d (i + 1) _ (omega arith) (λ k lo hi. g k (omega arith) hi))
-
   -- up to t, where the last byte is no blank: the end is t, whatever it was before
   inside-to : (d i e : ℕ) → i + suc d ≤ length xs → ((k : ℕ) → i ≤ k → k < i + suc d → isValue (getD xs k 0) ≡ true) → isBlank (getD xs (i + d) 0) ≡ false → runAt valueStep (inside v e) xs i ≡ runAt valueStep (inside v (i + suc d)) xs (i + suc d)
   inside-to zero i e h g l =
@@ -71,9 +66,8 @@ module _ (xs : List ℕ) (at : ℕ) {a r : ℕ} (b : Skipped isBlank xs at a) (v
     where
       go : Dec (at < length xs) → Dec (a < length xs) → short tt ≡ value xs at
       go (yes h) (yes g) =
-          let n : a + 1 + (length xs - (a + 1)) ≡ length xs = omega arith in
           rw (to-start (omega arith), first-in g (omega arith))
-          (inside-out xs a (length xs - (a + 1)) (a + 1) (a + 1) n (λ k lo hi. v .passed .all k (omega arith) (omega arith)))
+          (reads-out valueStep isValue (inside a) (λ e q b. cond (isBlank b) e (q + 1)) (λ e q b t. rw t) xs (a + 1) (a + 1) (omega arith) (λ k lo hi. v .passed .all k (omega arith) (omega arith)))
       go (yes h) (no g) = rw (to-start (omega arith), run-out valueStep blanks xs a (omega arith))
       go (no h) g = rw (run-out valueStep blanks xs at (omega arith))
 

@@ -8,6 +8,7 @@ use lib.ListN.{length, drop}
 use mathlib.Core.Bool.{Bool, true, false}
 use lib.Dec.{ltb}
 use borrow.Author.Tests.{ltb-true, ltb-false}
+use Rattle.reader.specs.Tests.{never}
 use Rattle.agreement.specs.Known.{fieldsIn}
 use Rattle.plain.specs.Plain.{plain-fields, plain-request, plain-response}
 use Rattle.output.specs.Put.{greatest, Behind, is, beyond, Adds, nothing-put}
@@ -89,9 +90,9 @@ module _ {s : List ℕ} {Writable : Type 0} {form old : List ℕ} where
 -- a writer that answers Written has written
 pub was-written : {s : List ℕ} {Writable : Type 0} {form old : List ℕ} {r : Plain} {new : List ℕ} → PlainPromise s Writable form old r new → {n : ℕ} → r ≡ Written n → Writable × (n ≡ length form) × (n ≤ length old) × (new ≡ form ++ drop n old)
 was-written {form = form} {old = old} (written {n = m} f l h e) {n} x = let y : m ≡ n = cc in (f, sym y ∙ l, omega (arith, y, h), e ∙ ap (λ z. form ++ drop z old) y)
-was-written (needs f l h g) x = let z : _≡_ {A = ℕ} 0 1 = cc in absurd (omega arith)
-was-written (unwritable f) x = let z : _≡_ {A = ℕ} 0 1 = cc in absurd (omega arith)
-was-written (too-long f g h i) x = let z : _≡_ {A = ℕ} 0 1 = cc in absurd (omega arith)
+was-written (needs f l h g) x = never cc
+was-written (unwritable f) x = never cc
+was-written (too-long f g h i) x = never cc
 
 -- a writer with room for a form that can be written answers Written
 pub writes : {s : List ℕ} {Writable : Type 0} {form old : List ℕ} {r : Plain} {new : List ℕ} → PlainPromise s Writable form old r new → Writable → length form ≤ length old → r ≡ Written (length form)

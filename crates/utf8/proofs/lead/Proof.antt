@@ -2,7 +2,7 @@
 -- Assumes nothing.
 use borrow.Author.Needs.{needs}
 use Rattle.octets.specs.Class.{within}
-use Rattle.utf8.proofs.Rows.{rows}
+use Rattle.utf8.specs.Rows.{rows}
 use Rattle.utf8.proofs.lead.Statement.{statement}
 use Rattle.utf8.proofs.lead.Tie as tie
 

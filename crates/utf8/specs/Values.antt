@@ -1,4 +1,4 @@
--- What the code's values mean to the reader.
+-- The check's structs as the reader's: what is awaited, as a state, and what a byte makes of it, as a move.
 -- Assumes nothing.
 use Prim.Native.Nat.{ℕ, zero, suc}
 use mathlib.Core.List.{[], _∷_}

@@ -4,7 +4,7 @@ use Prim.Native.Nat.{ℕ, _<_}
 use mathlib.Core.Path.{_≡_, refl}
 use mathlib.Core.Logic.{_↔_}
 use mathlib.Core.List.{List, [], _∷_}
-use mathlib.Core.Bool.{Bool, true, false, _&&_, _||_, false≢true}
+use mathlib.Core.Bool.{Bool, true, false, _&&_, _||_, false≢true, and-false}
 use lib.Dec.{leb, eqb}
 use borrow.Author.Tests.{leb-true, le-leb, lt-leb, eqb-true}
 use Rattle.octets.specs.Grammar.{Range, ALPHA, DIGIT, HEXDIG, field-vchar, tchar, blank, text}
@@ -36,17 +36,9 @@ pub range-in : (lo hi b : ℕ) → Range lo hi b → within lo hi b ≡ true
 unfolding within
 range-in lo hi b r = rw (le-leb lo b (r .low), le-leb b hi (r .high))
 
-pub below-range : (lo hi b : ℕ) → b < lo → within lo hi b ≡ false
-unfolding within
-below-range lo hi b h = rw (lt-leb lo b h)
-
 pub above-range : (lo hi b : ℕ) → hi < b → within lo hi b ≡ false
 unfolding within
-above-range lo hi b h = rw (lt-leb b hi h) (neither (leb lo b))
-  where
-    neither : (t : Bool) → (t && false) ≡ false
-    neither true = refl
-    neither false = refl
+above-range lo hi b h = rw (lt-leb b hi h) (and-false (leb lo b))
 
 -- what holds of each byte of a list holds of any byte among them
 abbrev Each : (ℕ → Type 0) → List ℕ → Type 0

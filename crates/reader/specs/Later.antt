@@ -5,11 +5,11 @@ use mathlib.Core.Path.{_≡_, refl, sym, subst}
 use mathlib.Core.Logic.{_⊎_, inl, inr}
 use mathlib.Core.List.{List, [], _∷_, _++_}
 use lib.ListN.{drop}
 use Rattle.reader.specs.Machine.{Run, more, gave, refused, Step, run, runAt}
 use Rattle.reader.specs.Laws.{gave-stays, refused-stays}
 use Rattle.reader.specs.Answer.{Answer, got, short, bad, answer, and}
 use Rattle.reader.specs.Chain.{last, chain, ended}
-use Rattle.agreement.specs.Inside.{knownOf}
+use Rattle.reader.specs.Known.{knownOf}
 
 pub data Later {U A F : Type 0} : Answer U A F → Answer U A F → Type 0 where
   same : {a : Answer U A F} → Later a a

@@ -8,7 +8,7 @@ use mathlib.Core.Bool.{true, false}
 use borrow.Author.Tests.{ne-eqb}
 use Rattle.reader.specs.Machine.{keep, refuse}
 use Rattle.octets.specs.Class.{within}
-use Rattle.octets.proofs.Ties.{in-range, above-range, range-in}
+use Rattle.octets.specs.Ties.{in-range, above-range, range-in}
 use Rattle.utf8.specs.Reader.{tail, lead}
 
 module _ (b : ℕ) where

@@ -12,10 +12,10 @@ use Rattle.reader.specs.Machine.{Move, keep, refuse, after, run}
 use Rattle.reader.specs.Tests.{split}
 use Rattle.octets.specs.Grammar.{Range}
 use Rattle.octets.specs.Class.{within}
-use Rattle.octets.proofs.Ties.{in-range, range-in}
+use Rattle.octets.specs.Ties.{in-range, range-in}
 use Rattle.utf8.specs.Grammar.{UTF8-1, UTF8-2, UTF8-3, UTF8-4, UTF8-char, UTF8-octets}
 use Rattle.utf8.specs.Reader.{State, tail, lead, machine, whole, utf8}
-use Rattle.utf8.proofs.Rows.{row-00-7F, row-C2-DF, row-E0, row-E1-EC, row-ED, row-EE-EF, row-F0, row-F1-F3, row-F4}
+use Rattle.utf8.specs.Rows.{row-00-7F, row-C2-DF, row-E0, row-E1-EC, row-ED, row-EE-EF, row-F0, row-F1-F3, row-F4}
 
 -- the bytes xs come in the ranges of the state, and characters behind them
 data Awaits : State → List ℕ → Type 0 where
