@@ -27,7 +27,8 @@ use Rattle.agreement.specs.Known.{Holds, Counts, RequestSays, StatusSays, Insid
 use Rattle.agreement.specs.Promises.{HeadPromise, block-alone, says-nothing, lies-nowhere}
 use Rattle.plain.specs.Plain.{plain-code, plain-request, plain-response, plain-fields}
 use Rattle.plain.specs.Derived.{plain-block, plain-request-derived, plain-request-strict, plain-response-derived, plain-response-strict}
-use Rattle.places.specs.Lies.{bytesOf, numberOf, one-point, requestOf, statusOf, Complete, Lies, AtMost, RequestLies, ResponseLies, BlockLies}
+use Rattle.startline.specs.Answers.{numberOf}
+use Rattle.places.specs.Lies.{bytesOf, one-point, requestOf, statusOf, Complete, Lies, AtMost, RequestLies, ResponseLies, BlockLies}
 use Rattle.writer.specs.declared.Plain.{Plain}
 use Rattle.writer.specs.declared.Plain.the-variants.{Written}
 use Rattle.output.specs.Put.{greatest}
