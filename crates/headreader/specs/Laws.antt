@@ -1,12 +1,9 @@
 -- One law for each way through the code.
 -- Assumes nothing.
 use Prim.Native.Nat.{ℕ, _+_}
-use native.Mathlib.Omega.{arith}
 use mathlib.Core.Path.{_≡_, sym, ap, _∙_}
-use mathlib.Core.List.{List, [], _∷_, _++_}
+use mathlib.Core.List.{List, [], _∷_}
 use mathlib.Core.Bool.{cond}
-use lib.ListN.{length, set, drop-of-length-le}
-use lib.Seq.{sets-eq}
 use borrow.Author.Tests.{eq-eqb, ne-eqb}
 use Rattle.parts.specs.declared.Piece.{Piece}
 use Rattle.startline.specs.declared.KnownPiece.{KnownPiece}
@@ -21,11 +18,6 @@ use Rattle.chunks.specs.Chunk.{chunk, sizeOf}
 use Rattle.agreement.specs.Promises.{ChunkPromise}
 use Rattle.headreader.specs.Numbers.{positionOf, pieceOf, pieceBit, numberBit, placed, requestNumbers, responseNumbers, blockNumbers, sizeKind, sizeNumbers}
 use Rattle.headreader.specs.Exports.{SizeExport}
-
--- eight stores into eight numbers
-pub eight : (l : List ℕ) (a b c d e f g h : ℕ) → length l ≡ 8 → set (set (set (set (set (set (set (set l 0 a) 1 b) 2 c) 3 d) 4 e) 5 f) 6 g) 7 h ≡ a ∷ b ∷ c ∷ d ∷ e ∷ f ∷ g ∷ h ∷ []
-eight l a b c d e f g h n =
-    sets-eq (a ∷ b ∷ c ∷ d ∷ e ∷ f ∷ g ∷ h ∷ []) l 0 (omega (arith, n)) ∙ ap (λ y. (a ∷ b ∷ c ∷ d ∷ e ∷ f ∷ g ∷ h ∷ []) ++ y) (drop-of-length-le l {i = 8} (omega (arith, n)))
 
 pub unknown-piece : {k : KnownPiece} → k ≡ pieces.NotYet → record { offset = 0; length = 0 } ≡ pieceOf k
 unknown-piece h = sym (ap pieceOf h)

@@ -11,11 +11,8 @@ hr-chunk-size-spec =
     (tie.spec
     (λ c κs. search needs)
     (λ c. search needs)
-    (λ c κs. search needs)
     (λ c. search needs)
-    (λ c κs. search needs)
     (λ c. search needs)
-    (λ c κs. search needs)
     (λ c. search (needs, size-told))
     (λ c. search (needs, size-told))
     (λ c. search (needs, size-told)))
