@@ -1,6 +1,6 @@
 -- The header block: lines up to the empty one, each header of which takes a slot.
 -- Assumes nothing.
-use Prim.Native.Nat.{ℕ, _+_, _*_, _≤_, _<_}
+use Prim.Native.Nat.{ℕ, _+_, _*_, _/_, _≤_, _<_}
 use native.Mathlib.Omega.{arith}
 use mathlib.Core.Path.{_≡_, refl, sym, ap, _∙_}
 use mathlib.Core.List.{List, [], _∷_, _++_}
@@ -97,17 +97,18 @@ tells {a} hs {r} e c f =
     let g : given a ≡ hs = ap given (sym e) ∙ given-tell (r .end) hs in
     record { answer = rw g e; count = rw g c; slots = rw g f }
 
--- what the loop keeps: the headers so far are in the slots, and the block from i on is the rest of the whole
+-- what the loop keeps: the headers so far are in the slots, which have room for n, and the block from i on is the rest of the whole
 pub record Kept (n : ℕ) (xs old new : List ℕ) (at i count : ℕ) : Type 0 where
   pub hs : List Header
   pub size : length hs ≡ count
   pub room : count ≤ n
   pub same : block default n [] xs at ≡ block default n hs xs i
   pub full : new ≡ filled hs old
+  pub fits : n * 4 ≤ length old
   pub long : length new ≡ length old
 
-pub kept-none : {n : ℕ} {xs old : List ℕ} {at : ℕ} → Kept n xs old old at at 0
-kept-none {old = old} = record { hs = []; size = refl; room = omega arith; same = refl; full = filled-none old; long = refl }
+pub kept-none : {xs old : List ℕ} {at : ℕ} → Kept (length old / 4) xs old old at at 0
+kept-none {old = old} = record { hs = []; size = refl; room = omega arith; same = refl; full = filled-none old; fits = omega arith; long = refl }
 
 module _ {n : ℕ} {xs old new : List ℕ} {at i count : ℕ} (k : Kept n xs old new at i count) {l : Line} (e : lineOf l ≡ line default xs i) where
   -- the block where its next line is c
@@ -127,14 +128,15 @@ module _ {n : ℕ} {xs old new : List ℕ} {at i count : ℕ} (k : Kept n xs old
     pub kept-full : n ≤ count → {r : Block} → r .end ≡ passes.Bad TooManyHeaders → r .count ≡ count → Told (block default n [] xs at) r old new
     kept-full u x y = tells (k .hs) (rw (goes h, k .size, le-ltb count n u, x)) (y ∙ sym (k .size)) (k .full)
 
-    pub kept-more : count < n → {new′ : List ℕ} → count * 4 + 4 ≤ length new → new′ ≡ take (count * 4) new ++ numbers g ++ drop (count * 4 + 4) new → Kept n xs old new′ at q (count + 1)
-    kept-more u f s = record {
+    pub kept-more : count < n → {new′ : List ℕ} → new′ ≡ take (count * 4) new ++ numbers g ++ drop (count * 4 + 4) new → Kept n xs old new′ at q (count + 1)
+    kept-more u s = record {
       hs = k .hs ++ (g ∷ []);
       size = omega (arith, length-append (k .hs) (g ∷ []), k .size);
       room = omega arith;
       same = rw (goes h, k .size, lt-ltb count n u);
       full = s ∙ rw (← k .size, k .full) (filled-more (k .hs) g old);
-      long = ap length s ∙ simp (length-append, length-take, length-drop) (omega (arith, k .long));
+      fits = k .fits;
+      long = ap length s ∙ simp (length-append, length-take, length-drop) (omega (arith, k .fits, k .long));
     }
 
 pub ruleset blocks = (kept-none, kept-end, kept-short, kept-bad, kept-full, kept-more)

@@ -6,7 +6,7 @@ use native.Mathlib.Numerals.{add-one}
 use native.Mathlib.Nat.{pow-suc, pow-le-pow-right}
 use mathlib.Core.Path.{_≡_, refl, _∙_}
 use mathlib.Core.List.{List}
-use mathlib.Core.Bool.{Bool, true, false, not, _||_, cond, false≢true}
+use mathlib.Core.Bool.{Bool, true, false, not, _&&_, _||_, cond, false≢true}
 use lib.Dec.{eqb, ltb}
 use lib.ListN.{length, getD}
 use borrow.Author.Tests.{eq-eqb, ne-eqb, lt-ltb, le-ltb, ltb-true, not-true, not-false}
@@ -26,10 +26,6 @@ unfoldable pub worth : ℕ → ℕ
 worth b = cond (ltb b 0x41) (b - 0x30) (cond (ltb b 0x61) (b - 0x37) (b - 0x57))
 
 module _ (b : ℕ) where
-  pub worth-none : b < 0x30 → 0 ≡ worth b
-  unfolding worth
-  worth-none h = let z : 0 ≡ b - 0x30 = omega arith in rw (lt-ltb b 0x41 (omega arith)) z
-
   pub worth-digit : b < 0x41 → {r : ℕ} → r ≡ b - 0x30 → r ≡ worth b
   unfolding worth
   worth-digit h e = rw (lt-ltb b 0x41 h) e
@@ -42,7 +38,33 @@ module _ (b : ℕ) where
   unfolding worth
   worth-small-letter h e = rw (le-ltb b 0x41 (omega arith), le-ltb b 0x61 h) e
 
-pub ruleset worths = (worth-none, worth-digit, worth-capital, worth-small-letter)
+-- w is what the digit b is worth
+pub record Worth (b w : ℕ) : Type 0 where
+  pub is : w ≡ worth b
+  pub small : w < 16
+
+-- no digit stands before 0x30, and each is worth less than 16
+abbrev small : ℕ → Bool
+small b = not (isHexDigit b) || (ltb 0x2F b && ltb (worth b) 16)
+
+both : (t u w : Bool) → (not t || (u && w)) ≡ true → t ≡ true → (u ≡ true) × (w ≡ true)
+both true true true h e = (refl, refl)
+both true true false h e = absurd (false≢true h)
+both true false w h e = absurd (false≢true h)
+both false u w h e = absurd (false≢true e)
+
+module _ {b : ℕ} (d : isHexDigit b ≡ true) (h : b < 256) where
+  is-small : (ltb 0x2F b ≡ true) × (ltb (worth b) 16 ≡ true)
+  unfolding worth isHexDigit isDigit within
+  is-small = both (isHexDigit b) (ltb 0x2F b) (ltb (worth b) 16) (same small (λ _. true) refl b h) d
+
+  pub digit-low : 0x30 ≤ b
+  digit-low = omega (arith, ltb-true 0x2F b (is-small .0))
+
+  pub digit-worth : {w : ℕ} → w ≡ worth b → Worth b w
+  digit-worth e = record { is = e; small = rw e (ltb-true (worth b) 16 (is-small .1)) }
+
+pub ruleset worths = (worth-digit, worth-capital, worth-small-letter, digit-low, digit-worth)
 
 -- digits so far and their number; in the blanks; in the extension; behind the CR
 pub data Chunk : Type 0 where
@@ -133,18 +155,6 @@ module _ (v : ℕ) (xs : List ℕ) (i : ℕ) where
 
 pub ruleset behinds = (cr-none, cr-lf, cr-bare, extension-cut, extension-end, blanks-cut, blanks-extension, blanks-cr, blanks-bad)
 
--- a hexadecimal digit is worth less than 16
-abbrev few : ℕ → Bool
-few b = not (isHexDigit b) || ltb (worth b) 16
-
-few-small : (t : Bool) (n : ℕ) → (not t || ltb n 16) ≡ true → t ≡ true → n < 16
-few-small true n h e = ltb-true n 16 h
-few-small false n h e = absurd (false≢true e)
-
-pub worth-small : (b : ℕ) → b < 256 → isHexDigit b ≡ true → worth b < 16
-unfolding worth isHexDigit isDigit within
-worth-small b h e = few-small (isHexDigit b) (worth b) (same few (λ _. true) refl b h) e
-
 -- the first i bytes are digits, and v is what they are worth
 pub record Counted (xs : List ℕ) (i v : ℕ) : Type 0 where
   pub inside : i ≤ length xs
@@ -157,8 +167,14 @@ counted-none = record { inside = omega arith; most = omega arith; small = omega 
 
 module _ {xs : List ℕ} {i v : ℕ} (c : Counted xs i v) where
   -- so that a digit more fits 64 bits
-  pub counted-fits : i < 16 → v < 0x1000_0000_0000_0000
+  counted-fits : i < 16 → v < 0x1000_0000_0000_0000
   counted-fits h = let p : 16 ^ i ≤ 16 ^ 15 = pow-le-pow-right (omega arith) {i = i} {j = 15} (omega arith) in omega (arith, c .small)
+
+  pub counted-mul : i < 16 → v * 16 < 0x1_0000_0000_0000_0000
+  counted-mul h = omega (arith, counted-fits h)
+
+  pub counted-add : i < 16 → {b w : ℕ} → Worth b w → v * 16 + w < 0x1_0000_0000_0000_0000
+  counted-add h e = omega (arith, counted-fits h, e .small)
 
   pub counted-out : length xs ≤ i → short tt ≡ chunk default xs
   counted-out h = rw (c .runs, run-out (chunkStep default) (digits i v) xs i h)
@@ -171,12 +187,12 @@ module _ {xs : List ℕ} {i v : ℕ} (c : Counted xs i v) where
       pub counted-full : 16 ≤ i → bad tt ≡ chunk default xs
       counted-full m = rw (c .runs, run-in (chunkStep default) (digits i v) xs i h, d, le-ltb i 16 m)
 
-      pub counted-more : i < 16 → {w : ℕ} → w ≡ worth (getD xs i 0) → w < 16 → Counted xs (i + 1) (v * 16 + w)
-      counted-more m {w} e s = record {
+      pub counted-more : i < 16 → {w : ℕ} → Worth (getD xs i 0) w → Counted xs (i + 1) (v * 16 + w)
+      counted-more m {w} e = record {
         inside = omega arith;
         most = omega arith;
-        small = rw (add-one, pow-suc) (omega (arith, c .small));
-        runs = rw (c .runs, run-in (chunkStep default) (digits i v) xs i h, d, lt-ltb i 16 m, e);
+        small = rw (add-one, pow-suc) (omega (arith, c .small, e .small));
+        runs = rw (c .runs, run-in (chunkStep default) (digits i v) xs i h, d, lt-ltb i 16 m, e .is);
       }
 
-pub ruleset counts = (counted-none, counted-out, counted-behind, counted-full, counted-more, told-true, told-false)
+pub ruleset counts = (counted-none, counted-mul, counted-add, counted-out, counted-behind, counted-full, counted-more, told-true, told-false)

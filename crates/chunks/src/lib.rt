@@ -3,8 +3,10 @@ ghost use mathlib.Core.Path.{_≡_};
 ghost use Prim.Native.Nat.{_≤_, _<_};
 ghost use lib.ListN.{length};
 ghost use Rattle.reader.specs.Skip.{Skipped};
+ghost use mathlib.Core.Bool.{true};
+ghost use Rattle.octets.specs.Class.{isHexDigit};
 ghost use Rattle.rules.specs.Rules.{default};
-ghost use Rattle.chunks.specs.Chunk.{worth, isExtension, chunk, sizeOf, from, cr, extension as inExtension, blanks as inBlanks};
+ghost use Rattle.chunks.specs.Chunk.{Worth, isExtension, chunk, sizeOf, from, cr, extension as inExtension, blanks as inBlanks};
 
 // The position behind the line and the size; or more is wanted; or a byte is wrong.
 pub enum ChunkSize {
@@ -80,11 +82,9 @@ fn wide(b: u8) -> u64
 
 // What a hexadecimal digit is worth.
 fn worth_of(b: u8) -> u64
-    ensures { λ r. ⌜ r ≡ worth b ⌝ }
+    requires { ⌜ isHexDigit b ≡ true ⌝ }
+    ensures { λ r. ⌜ Worth b r ⌝ }
 {
-    if b < 0x30 {
-        return 0;
-    }
     if b < 0x41 {
         return wide(b - 0x30);
     }

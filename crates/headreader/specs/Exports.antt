@@ -6,43 +6,34 @@ use mathlib.Core.List.{List, []}
 use lib.ListN.{length}
 use Rattle.rules.specs.Rules.{default}
 use Rattle.grammar.specs.Message.{request-head, response-head}
-use Rattle.heads.specs.declared.RequestHead.{RequestHead}
-use Rattle.heads.specs.declared.ResponseHead.{ResponseHead}
 use Rattle.heads.specs.Head.{Told}
 use Rattle.heads.specs.Calls.{request, response}
-use Rattle.blocks.specs.declared.Block.{Block}
 use Rattle.blocks.specs.Block as blocks
-use Rattle.chunks.specs.declared.ChunkSize.{ChunkSize}
 use Rattle.chunks.specs.Chunk.{chunk, sizeOf}
 use Rattle.agreement.specs.Known.{RequestSays, StatusSays, RequestInside, StatusInside}
 use Rattle.agreement.specs.Promises.{HeadPromise, block-alone, says-nothing, lies-nowhere, ChunkPromise}
 use Rattle.headreader.specs.Numbers.{kindOf, requestNumbers, responseNumbers, blockNumbers, sizeKind, sizeNumbers}
 
--- there is a head that the call may answer, by its own contract, and it is told in numbers
-pub record RequestExport (s old : List ℕ) (r : ℕ) (out new : List ℕ) : Type 0 where
-  pub head : RequestHead
-  pub told : Told (request default (length old / 4) s) (head .end) (head .line) (head .count) old new
-  pub promise : HeadPromise (request-head default) RequestSays RequestInside s old (head .end) (head .line) (head .count) new
-  pub kind : r ≡ kindOf (head .end)
-  pub numbers : out ≡ requestNumbers head
+-- there is an answer that the call may give, by its own contract, and it is told in numbers
+pub record Export {A : Type 0} (Told Promised : A → Type 0) (kindIs : A → ℕ) (numbersOf : A → List ℕ) (r : ℕ) (out : List ℕ) : Type 0 where
+  pub answer : A
+  pub told : Told answer
+  pub promise : Promised answer
+  pub kind : r ≡ kindIs answer
+  pub numbers : out ≡ numbersOf answer
 
-pub record ResponseExport (s old : List ℕ) (r : ℕ) (out new : List ℕ) : Type 0 where
-  pub head : ResponseHead
-  pub told : Told (response default (length old / 4) s) (head .end) (head .line) (head .count) old new
-  pub promise : HeadPromise (response-head default) StatusSays StatusInside s old (head .end) (head .line) (head .count) new
-  pub kind : r ≡ kindOf (head .end)
-  pub numbers : out ≡ responseNumbers head
+module _ (s old : List ℕ) (r : ℕ) (out new : List ℕ) where
+  abbrev pub RequestExport : Type 0
+  RequestExport =
+      Export (λ h. Told (request default (length old / 4) s) (h .end) (h .line) (h .count) old new) (λ h. HeadPromise (request-head default) RequestSays RequestInside s old (h .end) (h .line) (h .count) new) (λ h. kindOf (h .end)) requestNumbers r out
 
-pub record HeadersExport (s old : List ℕ) (r : ℕ) (out new : List ℕ) : Type 0 where
-  pub block : Block
-  pub told : blocks.Told (blocks.block default (length old / 4) [] s 0) block old new
-  pub promise : HeadPromise block-alone says-nothing lies-nowhere s old (block .end) tt (block .count) new
-  pub kind : r ≡ kindOf (block .end)
-  pub numbers : out ≡ blockNumbers block
+  abbrev pub ResponseExport : Type 0
+  ResponseExport =
+      Export (λ h. Told (response default (length old / 4) s) (h .end) (h .line) (h .count) old new) (λ h. HeadPromise (response-head default) StatusSays StatusInside s old (h .end) (h .line) (h .count) new) (λ h. kindOf (h .end)) responseNumbers r out
 
-pub record SizeExport (s : List ℕ) (r : ℕ) (out : List ℕ) : Type 0 where
-  pub size : ChunkSize
-  pub told : sizeOf size ≡ chunk default s
-  pub promise : ChunkPromise s size
-  pub kind : r ≡ sizeKind size
-  pub numbers : out ≡ sizeNumbers size
+  abbrev pub HeadersExport : Type 0
+  HeadersExport =
+      Export (λ b. blocks.Told (blocks.block default (length old / 4) [] s 0) b old new) (λ b. HeadPromise block-alone says-nothing lies-nowhere s old (b .end) tt (b .count) new) (λ b. kindOf (b .end)) blockNumbers r out
+
+abbrev pub SizeExport : List ℕ → ℕ → List ℕ → Type 0
+SizeExport s r out = Export (λ z. sizeOf z ≡ chunk default s) (ChunkPromise s) sizeKind sizeNumbers r out

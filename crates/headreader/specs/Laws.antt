@@ -1,31 +1,23 @@
 -- One law for each way through the code.
 -- Assumes nothing.
 use Prim.Native.Nat.{ℕ, _+_}
-use native.Mathlib.Omega.{arith}
 use mathlib.Core.Path.{_≡_, sym, ap, _∙_}
-use mathlib.Core.List.{List, [], _∷_, _++_}
+use mathlib.Core.List.{List, [], _∷_}
 use mathlib.Core.Bool.{cond}
-use lib.ListN.{length, set, drop-of-length-le}
-use lib.Seq.{sets-eq}
 use borrow.Author.Tests.{eq-eqb, ne-eqb}
 use Rattle.parts.specs.declared.Piece.{Piece}
 use Rattle.startline.specs.declared.KnownPiece.{KnownPiece}
 use Rattle.startline.specs.declared.KnownPiece.the-variants as pieces
+use Rattle.startline.specs.Answers.{numberOf}
 use Rattle.rules.specs.Rules.{default}
 use Rattle.heads.specs.declared.RequestHead.{RequestHead}
 use Rattle.heads.specs.declared.ResponseHead.{ResponseHead}
 use Rattle.blocks.specs.declared.Block.{Block}
 use Rattle.chunks.specs.declared.ChunkSize.{ChunkSize}
-use Rattle.chunks.specs.declared.ChunkSize.the-variants as sizes
 use Rattle.chunks.specs.Chunk.{chunk, sizeOf}
 use Rattle.agreement.specs.Promises.{ChunkPromise}
-use Rattle.headreader.specs.Numbers.{positionOf, pieceOf, numberOf, pieceBit, numberBit, placed, requestNumbers, responseNumbers, blockNumbers, sizeKind, sizeNumbers}
+use Rattle.headreader.specs.Numbers.{positionOf, pieceOf, pieceBit, numberBit, placed, requestNumbers, responseNumbers, blockNumbers, sizeKind, sizeNumbers}
 use Rattle.headreader.specs.Exports.{SizeExport}
-
--- eight stores into eight numbers
-pub eight : (l : List ℕ) (a b c d e f g h : ℕ) → length l ≡ 8 → set (set (set (set (set (set (set (set l 0 a) 1 b) 2 c) 3 d) 4 e) 5 f) 6 g) 7 h ≡ a ∷ b ∷ c ∷ d ∷ e ∷ f ∷ g ∷ h ∷ []
-eight l a b c d e f g h n =
-    sets-eq (a ∷ b ∷ c ∷ d ∷ e ∷ f ∷ g ∷ h ∷ []) l 0 (omega (arith, n)) ∙ ap (λ y. (a ∷ b ∷ c ∷ d ∷ e ∷ f ∷ g ∷ h ∷ []) ++ y) (drop-of-length-le l {i = 8} (omega (arith, n)))
 
 pub unknown-piece : {k : KnownPiece} → k ≡ pieces.NotYet → record { offset = 0; length = 0 } ≡ pieceOf k
 unknown-piece h = sym (ap pieceOf h)
@@ -38,25 +30,18 @@ long-piece p h = sym (ap (λ t. cond t (record { offset = 0; length = 0 }) p) (n
 
 -- the numbers of a head, each from the function that makes it
 module _ (head : RequestHead) {p k l m n : ℕ} {f g : Piece} {out : List ℕ} where
-  pub request-numbers : p ≡ positionOf (head .end) → k ≡ pieceBit (head .line .method) 1 → l ≡ pieceBit (head .line .target) 2 → m ≡ numberBit (head .line .version) 4 → f ≡ pieceOf (head .line .method) → g ≡ pieceOf (head .line .target) → n ≡ numberOf (head .line .version) →
-      out ≡ p ∷ head .count ∷ (k + l + m) ∷ f .offset ∷ f .length ∷ g .offset ∷ g .length ∷ n ∷ [] → out ≡ requestNumbers head
-  request-numbers a b c d e h i o = o ∙ rw (a, b, c, d, e, h, i)
+  pub request-numbers : out ≡ p ∷ head .count ∷ (k + l + m) ∷ f .offset ∷ f .length ∷ g .offset ∷ g .length ∷ n ∷ [] → p ≡ positionOf (head .end) → k ≡ pieceBit (head .line .method) 1 → l ≡ pieceBit (head .line .target) 2 → m ≡ numberBit (head .line .version) 4 → f ≡ pieceOf (head .line .method) →
+      g ≡ pieceOf (head .line .target) → n ≡ numberOf (head .line .version) → out ≡ requestNumbers head
+  request-numbers o a b c d e h i = o ∙ rw (a, b, c, d, e, h, i)
 
 module _ (head : ResponseHead) {p k l m n c : ℕ} {f g : Piece} {out : List ℕ} where
-  pub response-numbers : p ≡ positionOf (head .end) → k ≡ numberBit (head .line .version) 4 → l ≡ numberBit (head .line .code) 8 → m ≡ pieceBit (head .line .reason) 16 → n ≡ numberOf (head .line .version) → c ≡ numberOf (head .line .code) → f ≡ pieceOf (head .line .reason) → g ≡ placed f →
-      out ≡ p ∷ head .count ∷ (k + l + m) ∷ n ∷ c ∷ g .offset ∷ g .length ∷ 0 ∷ [] → out ≡ responseNumbers head
-  response-numbers a b d e h i j z o = o ∙ rw (a, b, d, e, h, i, z, j)
+  pub response-numbers : out ≡ p ∷ head .count ∷ (k + l + m) ∷ n ∷ c ∷ g .offset ∷ g .length ∷ 0 ∷ [] → p ≡ positionOf (head .end) → k ≡ numberBit (head .line .version) 4 → l ≡ numberBit (head .line .code) 8 → m ≡ pieceBit (head .line .reason) 16 → n ≡ numberOf (head .line .version) →
+      c ≡ numberOf (head .line .code) → f ≡ pieceOf (head .line .reason) → g ≡ placed f → out ≡ responseNumbers head
+  response-numbers o a b d e h i j z = o ∙ rw (a, b, d, e, h, i, z, j)
 
 pub block-numbers : (block : Block) {p : ℕ} {out : List ℕ} → p ≡ positionOf (block .end) → out ≡ p ∷ block .count ∷ 0 ∷ 0 ∷ 0 ∷ 0 ∷ 0 ∷ 0 ∷ [] → out ≡ blockNumbers block
 block-numbers block a o = o ∙ rw a
 
--- a chunk size line, by how it was found
-module _ {s : List ℕ} {size : ChunkSize} (t : sizeOf size ≡ chunk default s) (p : ChunkPromise s size) {out : List ℕ} where
-  pub size-complete : {q n : ℕ} → size ≡ sizes.Complete q n → out ≡ q ∷ n ∷ 0 ∷ 0 ∷ 0 ∷ 0 ∷ 0 ∷ 0 ∷ [] → SizeExport s 0 out
-  size-complete h o = record { size = size; told = t; promise = p; kind = sym (ap sizeKind h); numbers = o ∙ sym (ap sizeNumbers h) }
-
-  pub size-incomplete : size ≡ sizes.Incomplete → out ≡ 0 ∷ 0 ∷ 0 ∷ 0 ∷ 0 ∷ 0 ∷ 0 ∷ 0 ∷ [] → SizeExport s 1 out
-  size-incomplete h o = record { size = size; told = t; promise = p; kind = sym (ap sizeKind h); numbers = o ∙ sym (ap sizeNumbers h) }
-
-  pub size-invalid : size ≡ sizes.Invalid → out ≡ 0 ∷ 0 ∷ 0 ∷ 0 ∷ 0 ∷ 0 ∷ 0 ∷ 0 ∷ [] → SizeExport s 9 out
-  size-invalid h o = record { size = size; told = t; promise = p; kind = sym (ap sizeKind h); numbers = o ∙ sym (ap sizeNumbers h) }
+-- a chunk size line: z is what the arm took it for
+pub size-told : {s : List ℕ} {size z : ChunkSize} {r : ℕ} {out : List ℕ} → sizeOf size ≡ chunk default s → ChunkPromise s size → size ≡ z → r ≡ sizeKind z → out ≡ sizeNumbers z → SizeExport s r out
+size-told {size = size} t p h k o = record { answer = size; told = t; promise = p; kind = k ∙ sym (ap sizeKind h); numbers = o ∙ sym (ap sizeNumbers h) }

@@ -4,7 +4,6 @@ use Prim.Native.Nat.{ℕ, _+_}
 use mathlib.Core.List.{List, [], _∷_}
 use mathlib.Core.Bool.{cond}
 use lib.Dec.{eqb}
-use lib.ListN.{length}
 use Rattle.parts.specs.declared.Error.{Error}
 use Rattle.parts.specs.declared.Error.the-variants.{HeaderName, HeaderValue, NewLine, Status, Token, TooManyHeaders, Version}
 use Rattle.parts.specs.declared.Passed.{Passed}
@@ -14,6 +13,7 @@ use Rattle.startline.specs.declared.KnownPiece.{KnownPiece}
 use Rattle.startline.specs.declared.KnownPiece.the-variants as pieces
 use Rattle.startline.specs.declared.KnownNumber.{KnownNumber}
 use Rattle.startline.specs.declared.KnownNumber.the-variants as numbers
+use Rattle.startline.specs.Answers.{numberOf}
 use Rattle.heads.specs.declared.RequestHead.{RequestHead}
 use Rattle.heads.specs.declared.ResponseHead.{ResponseHead}
 use Rattle.blocks.specs.declared.Block.{Block}
@@ -46,10 +46,6 @@ positionOf (Bad e) = 0
 abbrev pub pieceOf : KnownPiece → Piece
 pieceOf (pieces.Is p) = p
 pieceOf pieces.NotYet = record { offset = 0; length = 0 }
-
-abbrev pub numberOf : KnownNumber → ℕ
-numberOf (numbers.Is n) = n
-numberOf numbers.NotYet = 0
 
 -- a bit for each part that is known
 abbrev pub pieceBit : KnownPiece → ℕ → ℕ

@@ -1,11 +1,9 @@
 // The calls for programs in C: each answer as a number and eight more. The contract of each says that these are the call's answer.
 ghost use mathlib.Core.Path.{_≡_};
-ghost use mathlib.Core.List.{[], _∷_};
 ghost use Prim.Native.Nat.{_≤_};
-ghost use lib.ListN.{length};
-ghost use Rattle.headreader.specs.Numbers.{errorNumber, kindOf, positionOf, pieceOf, numberOf, pieceBit, numberBit, placed, requestNumbers, responseNumbers, blockNumbers, sizeKind, sizeNumbers};
+ghost use Rattle.startline.specs.Answers.{numberOf};
+ghost use Rattle.headreader.specs.Numbers.{errorNumber, kindOf, positionOf, pieceOf, pieceBit, numberBit, placed, requestNumbers, responseNumbers};
 ghost use Rattle.headreader.specs.Exports.{RequestExport, ResponseExport, HeadersExport, SizeExport};
-use blocks::Block;
 use chunks::ChunkSize;
 use heads::RequestHead;
 use heads::ResponseHead;
@@ -108,31 +106,6 @@ fn placed_piece(p: Piece) -> Piece
     p
 }
 
-// All eight numbers of `out`.
-fn put(
-    out: &mut [usize],
-    a: usize,
-    b: usize,
-    c: usize,
-    d: usize,
-    e: usize,
-    f: usize,
-    g: usize,
-    h: usize,
-)
-    requires { ⌜ length (now out) ≡ 8 ⌝ }
-    ensures { λ _. ⌜ now (out .exit) ≡ a ∷ b ∷ c ∷ d ∷ e ∷ f ∷ g ∷ h ∷ [] ⌝ }
-{
-    out[0] = a;
-    out[1] = b;
-    out[2] = c;
-    out[3] = d;
-    out[4] = e;
-    out[5] = f;
-    out[6] = g;
-    out[7] = h;
-}
-
 fn put_request(out: &mut [usize; 8], head: RequestHead)
     ensures { λ _. ⌜ now (out .exit) ≡ requestNumbers head ⌝ }
 {
@@ -144,8 +117,7 @@ fn put_request(out: &mut [usize; 8], head: RequestHead)
     let known = piece_bit(method, 1) + piece_bit(target, 2) + number_bit(version, 4);
     let first = piece(method);
     let second = piece(target);
-    put(
-        out,
+    *out = [
         position(end),
         head.count,
         known,
@@ -154,7 +126,7 @@ fn put_request(out: &mut [usize; 8], head: RequestHead)
         second.offset,
         second.length,
         number(version),
-    );
+    ];
 }
 
 fn put_response(out: &mut [usize; 8], head: ResponseHead)
@@ -167,8 +139,7 @@ fn put_response(out: &mut [usize; 8], head: ResponseHead)
     let reason = line.reason;
     let known = number_bit(version, 4) + number_bit(code, 8) + piece_bit(reason, 16);
     let text = placed_piece(piece(reason));
-    put(
-        out,
+    *out = [
         position(end),
         head.count,
         known,
@@ -177,7 +148,7 @@ fn put_response(out: &mut [usize; 8], head: ResponseHead)
         text.offset,
         text.length,
         0,
-    );
+    ];
 }
 
 // No setting has an effect yet.
@@ -217,7 +188,7 @@ pub extern "C" fn hr_headers(buf: &[u8], slots: &mut [usize], out: &mut [usize; 
 {
     let block = calls::headers(buf, slots);
     let end = block.end;
-    put(out, position(end), block.count, 0, 0, 0, 0, 0, 0);
+    *out = [position(end), block.count, 0, 0, 0, 0, 0, 0];
     kind(end)
 }
 
@@ -228,15 +199,15 @@ pub extern "C" fn hr_chunk_size(buf: &[u8], out: &mut [usize; 8]) -> u32
     let found = calls::chunk_size(buf);
     match found {
         ChunkSize::Complete(end, size) => {
-            put(out, end, size as usize, 0, 0, 0, 0, 0, 0);
+            *out = [end, size as usize, 0, 0, 0, 0, 0, 0];
             0
         }
         ChunkSize::Incomplete => {
-            put(out, 0, 0, 0, 0, 0, 0, 0, 0);
+            *out = [0, 0, 0, 0, 0, 0, 0, 0];
             1
         }
         ChunkSize::Invalid => {
-            put(out, 0, 0, 0, 0, 0, 0, 0, 0);
+            *out = [0, 0, 0, 0, 0, 0, 0, 0];
             9
         }
     }

@@ -13,7 +13,7 @@ use Rattle.requestline.specs.RequestLine as requests
 use Rattle.statusline.specs.StatusLine.{statusLineStep, statusLine}
 use Rattle.statusline.specs.StatusLine as statuses
 use Rattle.blocks.specs.Block.{block}
-use Rattle.heads.specs.Head.{Heads, head, over, headed, head-parts, Told, head-block, head-more, head-bad}
+use Rattle.heads.specs.Head.{Heads, head, over, headed, head-parts, Told, told-block, head-on, head-more, head-bad}
 
 unfoldable pub request : Rules → ℕ → List ℕ → Heads RequestLine
 request r n xs = head r n (requestLineStep r) requests.lineKnown (first start) xs
@@ -31,4 +31,4 @@ module _ (n : ℕ) (xs : List ℕ) {end : Passed} {count : ℕ} {old new : List 
   unfolding response
   response-whole t = rw (head-parts default n (statusLineStep default) statuses.lineKnown (first start) xs) t
 
-pub ruleset calls = (request-whole, response-whole, head-block, head-more, head-bad)
+pub ruleset calls = (request-whole, response-whole, told-block, head-on, head-more, head-bad)

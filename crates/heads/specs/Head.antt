@@ -110,11 +110,14 @@ over-tell k (passes.At q) hs = refl
 over-tell k passes.More hs = refl
 over-tell k (passes.Bad e) hs = refl
 
+-- the block's answer behind a start line that told k
+pub told-block : {K : Type 0} (k : K) {a : Blocks} {b : Block} {end : Passed} {count : ℕ} {old new : List ℕ} → blocks.Told a b old new → end ≡ b .end → count ≡ b .count → Told (over k a) end k count old new
+told-block k {a} {b} t x y = tells (blocks.given a) (rw (x, over-tell k (b .end) (blocks.given a), t .answer)) (y ∙ t .count) (t .slots)
+
 -- the ways of a head, by how its start line ended
 module _ {K : Type 0} {line : K} {e : Passed} {a : Answer K K (Error × K)} (h : tell e line ≡ a) where
-  pub head-block : {q : ℕ} → e ≡ passes.At q → (xs : List ℕ) (n : ℕ) {b : Block} {old new : List ℕ} → blocks.Told (block default n [] xs q) b old new → Told (headed a (λ k i. over k (block default n [] xs i))) (b .end) line (b .count) old new
-  head-block {q} m xs n {b} t =
-      tells (blocks.given (block default n [] xs q)) (over-tell line (b .end) (blocks.given (block default n [] xs q)) ∙ rw (t .answer, ← h, m)) (t .count) (t .slots)
+  pub head-on : {q : ℕ} → e ≡ passes.At q → (next : K → ℕ → Heads K) {end : Passed} {count : ℕ} {old new : List ℕ} → Told (next line q) end line count old new → Told (headed a next) end line count old new
+  head-on m next t = rw (← h, m) t
 
   pub head-more : e ≡ passes.More → (next : K → ℕ → Heads K) (old : List ℕ) → Told (headed a next) passes.More line 0 old old
   head-more m next old = tells [] (rw (← h, m)) refl (filled-none old)

@@ -28,8 +28,9 @@ use Rattle.agreement.specs.Kept.{fields-counted}
 use Rattle.agreement.specs.Promises.{HeadPromise, block-alone, says-nothing, lies-nowhere}
 use Rattle.plain.specs.Plain.{plain-code, plain-request, plain-response, plain-fields}
 use Rattle.plain.specs.Derived.{plain-block, plain-request-derived, plain-request-strict, plain-response-derived, plain-response-strict}
+use Rattle.startline.specs.Answers.{numberOf}
 use Rattle.plain.specs.Short.{request-short, response-short, block-short}
-use Rattle.places.specs.Lies.{bytesOf, numberOf, one-point, requestOf, statusOf, Complete, Lies, AtMost, RequestLies, ResponseLies, BlockLies}
+use Rattle.places.specs.Lies.{bytesOf, one-point, requestOf, statusOf, Complete, Lies, AtMost, RequestLies, ResponseLies, BlockLies}
 use Rattle.writer.specs.declared.Plain.{Plain}
 use Rattle.writer.specs.declared.Plain.the-variants.{Written}
 use Rattle.writer.specs.Promise.{request-form, response-form, block-form, PlainPromise, was-written, writes, asks}

@@ -41,6 +41,18 @@ without f d t = decides-no (λ q. d .no t (f q))
 decides-as : {P Q : Type 0} {b : Bool} → (P → Q) → (Q → P) → Decides P b → Decides Q b
 decides-as f g d = record { yes = λ t. f (d .yes t); no = λ t q. d .no t (g q) }
 
+-- of two things the first is not so, or all hangs on the second
+pub record Both (P Q : Type 0) : Type 0 where
+  pub one : P
+  pub rest : Q
+
+module _ {P Q : Type 0} {a : Bool} (d : Decides P a) where
+  pub first-not : a ≡ false → Decides (Both P Q) false
+  first-not = without (λ y. y .one) d
+
+  pub first-so : a ≡ true → {b : Bool} → Decides Q b → Decides (Both P Q) b
+  first-so t = decides-as (λ q. record { one = d .yes t; rest = q }) (λ y. y .rest)
+
 module _ (offset size n : ℕ) where
   pub lies-within : offset ≤ n → size ≤ n - offset → Decides (offset + size ≤ n) true
   lies-within h i = decides-yes (omega (arith, h, i))
@@ -96,12 +108,9 @@ module _ {m : ℕ} {k : KnownNumber} where
   pub number-unknown : k ≡ numbers.NotYet → Decides (AtMost m k) false
   number-unknown h = decides-no (λ y. most-not (subst (AtMost m) h y))
 
-module _ {e : ℕ} {slots : List ℕ} {i : ℕ} where
-  pub name-out : {b : Bool} → Decides (getD slots i 0 + getD slots (i + 1) 0 ≤ e) b → b ≡ false → Decides (SlotLies e slots i) false
-  name-out = without (λ y. y .name)
-
-  pub slot-lies : {a b : Bool} → Decides (getD slots i 0 + getD slots (i + 1) 0 ≤ e) a → a ≡ true → Decides (getD slots (i + 2) 0 + getD slots (i + 3) 0 ≤ e) b → Decides (SlotLies e slots i) b
-  slot-lies d t = decides-as (λ y. record { name = d .yes t; value = y }) (λ y. y .value)
+-- the name and the value of a header
+pub slot-parts : {e : ℕ} {slots : List ℕ} {i : ℕ} {b : Bool} → Decides (Both (getD slots i 0 + getD slots (i + 1) 0 ≤ e) (getD slots (i + 2) 0 + getD slots (i + 3) 0 ≤ e)) b → Decides (SlotLies e slots i) b
+slot-parts = decides-as (λ y. record { name = y .one; value = y .rest }) (λ y. record { one = y .name; rest = y .value })
 
 -- the slots before k lie in the input
 pub record Checked (s : List ℕ) (slots : List ℕ) (count k : ℕ) : Type 0 where
@@ -138,47 +147,23 @@ module _ {s slots : List ℕ} {count k : ℕ} (c : Checked s slots count k) wher
       let z : c .left ≡ 0 = omega (arith, h, c .all) in
       decides-yes (record { room = omega (arith, r); inside = c .on (subst (λ m. SlotsInside (length s) m (drop (k * 4) slots)) (sym z) tt) })
 
-module _ {s : List ℕ} {head : RequestHead} {slots : List ℕ} where
-  pub request-ended : {b : Bool} → Decides (Complete (head .end)) b → b ≡ false → Decides (RequestLies s head slots) false
-  request-ended = without (λ y. y .complete)
+-- the parts of a head, looked at one after another
+module _ {s slots : List ℕ} {b : Bool} where
+  pub request-parts : {head : RequestHead} → Decides (Both (Complete (head .end)) (Both (Lies s (head .line .method)) (Both (Lies s (head .line .target)) (Both (AtMost 9 (head .line .version)) (SlotsLie s (head .count) slots))))) b → Decides (RequestLies s head slots) b
+  request-parts =
+      decides-as
+      (λ y. record { complete = y .one; method = y .rest .one; target = y .rest .rest .one; version = y .rest .rest .rest .one; headers = y .rest .rest .rest .rest })
+      (λ y. record { one = y .complete; rest = record { one = y .method; rest = record { one = y .target; rest = record { one = y .version; rest = y .headers } } } })
 
-  pub request-method : {b : Bool} → Decides (Lies s (head .line .method)) b → b ≡ false → Decides (RequestLies s head slots) false
-  request-method = without (λ y. y .method)
+  pub response-parts : {head : ResponseHead} → Decides (Both (Complete (head .end)) (Both (AtMost 9 (head .line .version)) (Both (AtMost 999 (head .line .code)) (Both (Lies s (head .line .reason)) (SlotsLie s (head .count) slots))))) b → Decides (ResponseLies s head slots) b
+  response-parts =
+      decides-as
+      (λ y. record { complete = y .one; version = y .rest .one; code = y .rest .rest .one; reason = y .rest .rest .rest .one; headers = y .rest .rest .rest .rest })
+      (λ y. record { one = y .complete; rest = record { one = y .version; rest = record { one = y .code; rest = record { one = y .reason; rest = y .headers } } } })
 
-  pub request-target : {b : Bool} → Decides (Lies s (head .line .target)) b → b ≡ false → Decides (RequestLies s head slots) false
-  request-target = without (λ y. y .target)
+  pub block-parts : {block : Block} → Decides (Both (Complete (block .end)) (SlotsLie s (block .count) slots)) b → Decides (BlockLies s block slots) b
+  block-parts = decides-as (λ y. record { complete = y .one; headers = y .rest }) (λ y. record { one = y .complete; rest = y .headers })
 
-  pub request-version : {b : Bool} → Decides (AtMost 9 (head .line .version)) b → b ≡ false → Decides (RequestLies s head slots) false
-  request-version = without (λ y. y .version)
+pub ruleset checks = (not-true, not-false, lies-within, starts-behind, ends-behind, complete-at, complete-more, complete-bad, piece-known, piece-unknown, number-known, number-great, number-unknown, few-slots, checked-none, slot-out, checked-more, checked-all)
 
-  pub request-lies : {b d e f g : Bool} → Decides (Complete (head .end)) b → b ≡ true → Decides (Lies s (head .line .method)) d → d ≡ true → Decides (Lies s (head .line .target)) e → e ≡ true → Decides (AtMost 9 (head .line .version)) f → f ≡ true →
-      Decides (SlotsLie s (head .count) slots) g → Decides (RequestLies s head slots) g
-  request-lies c t m u g v n w = decides-as (λ y. record { complete = c .yes t; method = m .yes u; target = g .yes v; version = n .yes w; headers = y }) (λ y. y .headers)
-
-module _ {s : List ℕ} {head : ResponseHead} {slots : List ℕ} where
-  pub response-ended : {b : Bool} → Decides (Complete (head .end)) b → b ≡ false → Decides (ResponseLies s head slots) false
-  response-ended = without (λ y. y .complete)
-
-  pub response-version : {b : Bool} → Decides (AtMost 9 (head .line .version)) b → b ≡ false → Decides (ResponseLies s head slots) false
-  response-version = without (λ y. y .version)
-
-  pub response-code : {b : Bool} → Decides (AtMost 999 (head .line .code)) b → b ≡ false → Decides (ResponseLies s head slots) false
-  response-code = without (λ y. y .code)
-
-  pub response-reason : {b : Bool} → Decides (Lies s (head .line .reason)) b → b ≡ false → Decides (ResponseLies s head slots) false
-  response-reason = without (λ y. y .reason)
-
-  pub response-lies : {b d e f g : Bool} → Decides (Complete (head .end)) b → b ≡ true → Decides (AtMost 9 (head .line .version)) d → d ≡ true → Decides (AtMost 999 (head .line .code)) e → e ≡ true → Decides (Lies s (head .line .reason)) f → f ≡ true →
-      Decides (SlotsLie s (head .count) slots) g → Decides (ResponseLies s head slots) g
-  response-lies c t n w k v r u = decides-as (λ y. record { complete = c .yes t; version = n .yes w; code = k .yes v; reason = r .yes u; headers = y }) (λ y. y .headers)
-
-module _ {s : List ℕ} {block : Block} {slots : List ℕ} where
-  pub block-ended : {b : Bool} → Decides (Complete (block .end)) b → b ≡ false → Decides (BlockLies s block slots) false
-  block-ended = without (λ y. y .complete)
-
-  pub block-lies : {b g : Bool} → Decides (Complete (block .end)) b → b ≡ true → Decides (SlotsLie s (block .count) slots) g → Decides (BlockLies s block slots) g
-  block-lies c t = decides-as (λ y. record { complete = c .yes t; headers = y }) (λ y. y .headers)
-
-pub ruleset checks = (not-true, not-false, lies-within, starts-behind, ends-behind, complete-at, complete-more, complete-bad, piece-known, piece-unknown, number-known, number-great, number-unknown, few-slots, name-out, slot-lies, checked-none, slot-out, checked-more, checked-all)
-
-pub ruleset lies = (not-true, not-false, request-ended, request-method, request-target, request-version, request-lies, response-ended, response-version, response-code, response-reason, response-lies, block-ended, block-lies)
+pub ruleset lies = (not-true, not-false, slot-parts, request-parts, response-parts, block-parts, first-not, first-so)

@@ -11,6 +11,7 @@ use Rattle.startline.specs.declared.KnownPiece.{KnownPiece}
 use Rattle.startline.specs.declared.KnownPiece.the-variants as pieces
 use Rattle.startline.specs.declared.KnownNumber.{KnownNumber}
 use Rattle.startline.specs.declared.KnownNumber.the-variants as numbers
+use Rattle.startline.specs.Answers.{numberOf}
 use Rattle.requestline.specs.declared.RequestLine.{RequestLine}
 use Rattle.statusline.specs.declared.StatusLine.{StatusLine}
 use Rattle.heads.specs.declared.RequestHead.{RequestHead}
@@ -23,10 +24,6 @@ use Rattle.agreement.specs.Known.{SlotsInside}
 abbrev pub bytesOf : List ℕ → KnownPiece → List ℕ
 bytesOf s (pieces.Is a) = held s a
 bytesOf s pieces.NotYet = []
-
-abbrev pub numberOf : KnownNumber → ℕ
-numberOf (numbers.Is n) = n
-numberOf numbers.NotYet = 0
 
 abbrev pub one-point : ℕ → grammar.Version
 one-point n = record { major = 1; minor = n }

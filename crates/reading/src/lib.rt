@@ -7,10 +7,12 @@ use statusline::StatusLine;
 use wording::Fault;
 use wording::Kind;
 
-// Four numbers a header: where its name is, the name's length, where its value is, the value's length.
-pub type Slots = [usize; 400];
-
 pub const MOST_HEADERS: usize = 100;
+
+// Four numbers a header: where its name is, the name's length, where its value is, the value's length.
+pub const NUMBERS: usize = MOST_HEADERS * 4;
+
+pub type Slots = [usize; NUMBERS];
 
 // The position behind what was read; or more is wanted; or something is wrong.
 pub enum Answer {
@@ -121,7 +123,7 @@ pub fn decided(kind: Kind, s: &[u8]) -> usize {
 }
 
 fn is_incomplete(kind: Kind, s: &[u8]) -> bool {
-    let mut slots = [0usize; 400];
+    let mut slots = [0usize; NUMBERS];
     let reading = read(kind, s, &mut slots);
     let answer = reading.answer;
     match answer {

@@ -2,94 +2,27 @@
 ghost use mathlib.Core.Path.{_≡_};
 ghost use Prim.Native.Nat.{_+_, _≤_, _<_};
 ghost use lib.ListN.{length};
+
+mod row;
+
 use libc::STDIN_FILENO;
 use libc::STDOUT_FILENO;
+use row::read_input;
+use row::read_number;
+
+// The most headers that a row has slots for, and the numbers behind which none is ever written.
+const MOST_HEADERS: u64 = 16;
+
+const NUMBERS: usize = 72;
+
+// The longest input of a row.
+const LONGEST: usize = 1024;
+
+// The most blocks that are read.
+const MOST_BLOCKS: usize = 1000;
 
 // What every slot holds before a call.
 const UNTOUCHED: usize = 7777777;
-
-// A number of a row, and the position behind it and the space that follows it.
-struct Number {
-    value: u64,
-    next: usize,
-}
-
-// A decimal number. Digits beyond 64 bits are dropped: no row has them.
-fn read_number(s: &[u8], at: usize) -> Number {
-    let mut i = at;
-    let mut value: u64 = 0;
-    while i < s.len() {
-        let b = s[i];
-        if !octets::is_digit(b) {
-            return Number { value, next: i + 1 };
-        }
-        if value < 1844674407370955162 {
-            value = std::num::wrapping_add_u64(value * 10, wide(b));
-        }
-        i += 1;
-    }
-    Number { value, next: i }
-}
-
-// What a decimal digit is worth.
-fn wide(b: u8) -> u64 {
-    if b < 48 {
-        return 0;
-    }
-    (b - 48) as u64
-}
-
-// What a hexadecimal digit in lower case is worth.
-fn worth(b: u8) -> u8
-    ensures { λ r. ⌜ r < 16 ⌝ }
-{
-    if b < 48 {
-        return 0;
-    }
-    if b < 58 {
-        return b - 48;
-    }
-    if b < 97 {
-        return 0;
-    }
-    (b - 87) % 16
-}
-
-// The bytes of a row's input: how many there are, and the position behind them and the space that follows.
-struct Bytes {
-    count: usize,
-    next: usize,
-}
-
-// Pairs of hexadecimal digits up to a space; a row's empty input is a hyphen, which is no pair.
-fn read_input(s: &[u8], at: usize, input: &mut [u8]) -> Bytes
-    ensures { λ r. ⌜ (r .count ≤ length (now (input .entry))) × (length (now (input .exit)) ≡ length (now (input .entry))) ⌝ }
-{
-    let mut i = at;
-    let mut count = 0;
-    while i < s.len() {
-        if s[i] == 32 {
-            return Bytes { count, next: i + 1 };
-        }
-        let low = i + 1;
-        if s.len() <= low {
-            return Bytes { count, next: low };
-        }
-        if input.len() <= count {
-            return Bytes { count, next: low };
-        }
-        if s[low] == 32 {
-            return Bytes {
-                count,
-                next: low + 1,
-            };
-        }
-        input[count] = worth(s[i]) * 16 + worth(s[low]);
-        count += 1;
-        i = low + 1;
-    }
-    Bytes { count, next: i }
-}
 
 // The call that a row's first number names, on the first `count` bytes and the first `lent` numbers.
 fn ask(
@@ -150,14 +83,14 @@ fn same_slots(s: &[u8], at: usize, slots: &[usize], written: usize) -> bool {
 fn agrees(row: &[u8]) -> bool {
     let call = read_number(row, 0);
     let lent = read_number(row, call.next);
-    if 16 < lent.value {
+    if MOST_HEADERS < lent.value {
         return false;
     }
-    let mut bytes = [0u8; 1024];
+    let mut bytes = [0u8; LONGEST];
     let input: &mut [u8] = &mut bytes;
     let read = read_input(row, lent.next, input);
     let kind = read_number(row, read.next);
-    let mut numbers = [UNTOUCHED; 72];
+    let mut numbers = [UNTOUCHED; NUMBERS];
     let slots: &mut [usize] = &mut numbers;
     let mut out = [UNTOUCHED; 8];
     let count = read.count;
@@ -177,10 +110,10 @@ fn agrees(row: &[u8]) -> bool {
     same_slots(row, next, slots, written)
 }
 
-// Four numbers a header, of which a row has 16 at the most.
+// Four numbers a header.
 fn four(headers: usize) -> usize {
-    if 16 < headers {
-        return 72;
+    if MOST_HEADERS < headers as u64 {
+        return NUMBERS;
     }
     headers * 4
 }
@@ -274,7 +207,7 @@ fn main() {
     };
     let mut kept: usize = 0;
     let mut turns: usize = 0;
-    while turns < 1000 {
+    while turns < MOST_BLOCKS {
         if buffer.len() <= kept {
             break;
         }

@@ -7,12 +7,13 @@ use page::text::fill;
 use page::text::put;
 use page::text::row;
 use reading::Answer;
+use reading::NUMBERS;
 use wording::Fault;
 use wording::Kind;
 
 // Answers how long the report is, or a number above the page's length where it has no room.
 pub fn report(page: &mut Page, kind: Kind, raw: bool, s: &[u8]) -> usize {
-    let mut slots = [0usize; 400];
+    let mut slots = [0usize; NUMBERS];
     let reading = reading::read(kind, s, &mut slots);
     let answer = reading.answer;
     let first = reading.first;

@@ -39,37 +39,49 @@ withVersion k v = record { method = k .method; target = k .target; version = num
 abbrev pub Line : Type 0 → Type 0
 Line S = Step S RequestLine (Error × RequestLine)
 
--- the line, from its last part to its first
+-- the states, from the last part to the first
+abbrev pub Versions : Type 0
+Versions = Then (List ℕ) RequestLine LineEnd
+
+abbrev pub Targets : Type 0
+Targets = Then Target RequestLine Versions
+
+abbrev pub Methods : Type 0
+Methods = Then Word RequestLine Targets
+
+abbrev pub Starts : Type 0
+Starts = Then EmptyLines RequestLine Methods
+
 module _ (r : Rules) where
   abbrev pub endStep : RequestLine → Line LineEnd
   endStep k = part k (λ _. k) (lineEndStep r NewLine)
 
-  abbrev pub versionOn : RequestLine → Line (Then (List ℕ) RequestLine LineEnd)
+  abbrev pub versionOn : RequestLine → Line Versions
   versionOn k = seq (part k (withVersion k) versionStep) (λ _. begin) endStep
 
-  abbrev pub targetOn : RequestLine → Line (Then Target RequestLine (Then (List ℕ) RequestLine LineEnd))
+  abbrev pub targetOn : RequestLine → Line Targets
   targetOn k = seq (part k (withTarget k) targetStep) (λ _. first name) versionOn
 
-  abbrev pub methodOn : RequestLine → Line (Then Word RequestLine (Then Target RequestLine (Then (List ℕ) RequestLine LineEnd)))
+  abbrev pub methodOn : RequestLine → Line Methods
   methodOn k = seq (part k (withMethod k) (wordStep isToken 32 Token)) (λ _. first targets.none) targetOn
 
-  abbrev pub requestLineStep : Line (Then EmptyLines RequestLine (Then Word RequestLine (Then Target RequestLine (Then (List ℕ) RequestLine LineEnd))))
+  abbrev pub requestLineStep : Line Starts
   requestLineStep = seq (part unread (λ _. unread) (emptyLinesStep r)) (λ _. first words.none) methodOn
 
 -- what is known in each state
 abbrev pub endKnown : RequestLine → LineEnd → RequestLine
 endKnown k _ = k
 
-abbrev pub versionKnown : RequestLine → Then (List ℕ) RequestLine LineEnd → RequestLine
+abbrev pub versionKnown : RequestLine → Versions → RequestLine
 versionKnown k = either (λ _. k) endKnown
 
-abbrev pub targetKnown : RequestLine → Then Target RequestLine (Then (List ℕ) RequestLine LineEnd) → RequestLine
+abbrev pub targetKnown : RequestLine → Targets → RequestLine
 targetKnown k = either (λ _. k) versionKnown
 
-abbrev pub methodKnown : RequestLine → Then Word RequestLine (Then Target RequestLine (Then (List ℕ) RequestLine LineEnd)) → RequestLine
+abbrev pub methodKnown : RequestLine → Methods → RequestLine
 methodKnown k = either (λ _. k) targetKnown
 
-abbrev pub lineKnown : Then EmptyLines RequestLine (Then Word RequestLine (Then Target RequestLine (Then (List ℕ) RequestLine LineEnd))) → RequestLine
+abbrev pub lineKnown : Starts → RequestLine
 lineKnown = either (λ _. unread) methodKnown
 
 abbrev pub requestLine : Rules → List ℕ → ℕ → Answer RequestLine RequestLine (Error × RequestLine)

@@ -22,6 +22,13 @@ pub struct RequestLineRead {
     pub line: RequestLine,
 }
 
+// What was known where the reading stopped.
+fn stopped(end: Passed, line: RequestLine) -> RequestLineRead
+    ensures { λ r. ⌜ tell (r .end) (r .line) ≡ tell end line ⌝ }
+{
+    RequestLineRead { end, line }
+}
+
 // The line's end.
 fn request_end(s: &[u8], at: usize, line: RequestLine) -> RequestLineRead
     ensures { λ r. ⌜ tell (r .end) (r .line) ≡ fromEnd default (now (s .entry)) line at ⌝ }
@@ -49,14 +56,8 @@ fn request_version(s: &[u8], at: usize, line: RequestLine) -> RequestLineRead
                 },
             )
         }
-        Number::More => RequestLineRead {
-            end: Passed::More,
-            line,
-        },
-        Number::Bad(e) => RequestLineRead {
-            end: Passed::Bad(e),
-            line,
-        },
+        Number::More => stopped(Passed::More, line),
+        Number::Bad(e) => stopped(Passed::Bad(e), line),
     }
 }
 
@@ -79,14 +80,8 @@ fn request_target(s: &[u8], at: usize, line: RequestLine) -> RequestLineRead
                 },
             )
         }
-        Found::More => RequestLineRead {
-            end: Passed::More,
-            line,
-        },
-        Found::Bad(e) => RequestLineRead {
-            end: Passed::Bad(e),
-            line,
-        },
+        Found::More => stopped(Passed::More, line),
+        Found::Bad(e) => stopped(Passed::Bad(e), line),
     }
 }
 
@@ -109,14 +104,8 @@ fn request_method(s: &[u8], at: usize, line: RequestLine) -> RequestLineRead
                 },
             )
         }
-        Found::More => RequestLineRead {
-            end: Passed::More,
-            line,
-        },
-        Found::Bad(e) => RequestLineRead {
-            end: Passed::Bad(e),
-            line,
-        },
+        Found::More => stopped(Passed::More, line),
+        Found::Bad(e) => stopped(Passed::Bad(e), line),
     }
 }
 
@@ -132,13 +121,7 @@ pub fn request_line(s: &[u8]) -> RequestLineRead
     let passed = parts::empty_lines(s, 0);
     match passed {
         Passed::At(next) => request_method(s, next, line),
-        Passed::More => RequestLineRead {
-            end: Passed::More,
-            line,
-        },
-        Passed::Bad(e) => RequestLineRead {
-            end: Passed::Bad(e),
-            line,
-        },
+        Passed::More => stopped(Passed::More, line),
+        Passed::Bad(e) => stopped(Passed::Bad(e), line),
     }
 }

@@ -1,5 +1,6 @@
 // The plain form of what stands at the start of an input.
 use page::text::Page;
+use reading::NUMBERS;
 use wording::Kind;
 use writer::Plain;
 
@@ -14,19 +15,19 @@ pub fn restate(page: &mut Page, kind: Kind, s: &[u8]) -> Plain {
 }
 
 fn request(page: &mut Page, s: &[u8]) -> Plain {
-    let mut slots = [0usize; 400];
+    let mut slots = [0usize; NUMBERS];
     let head = calls::request(s, &mut slots);
     writer::plain_request(s, head, &slots, page)
 }
 
 fn response(page: &mut Page, s: &[u8]) -> Plain {
-    let mut slots = [0usize; 400];
+    let mut slots = [0usize; NUMBERS];
     let head = calls::response(s, &mut slots);
     writer::plain_response(s, head, &slots, page)
 }
 
 fn headers(page: &mut Page, s: &[u8]) -> Plain {
-    let mut slots = [0usize; 400];
+    let mut slots = [0usize; NUMBERS];
     let block = calls::headers(s, &mut slots);
     writer::plain_headers(s, block, &slots, page)
 }

@@ -1,5 +1,6 @@
 -- What the code's answers mean to the reader.
 -- Assumes nothing.
+use Prim.Native.Nat.{ℕ}
 use mathlib.Core.Path.{_≡_, refl}
 use Rattle.reader.specs.Answer.{Answer, got, short, bad}
 use Rattle.reader.specs.Chain.{last}
@@ -7,6 +8,13 @@ use Rattle.parts.specs.declared.Error.{Error}
 use Rattle.parts.specs.declared.Passed.{Passed}
 use Rattle.parts.specs.declared.Passed.the-variants as passes
 use Rattle.parts.specs.Answers.{passed}
+use Rattle.startline.specs.declared.KnownNumber.{KnownNumber}
+use Rattle.startline.specs.declared.KnownNumber.the-variants as numbers
+
+-- a number that is not known is 0
+abbrev pub numberOf : KnownNumber → ℕ
+numberOf (numbers.Is n) = n
+numberOf numbers.NotYet = 0
 
 -- an answer in which k is known
 abbrev pub tell : {K : Type 0} → Passed → K → Answer K K (Error × K)

@@ -27,6 +27,13 @@ pub struct StatusLineRead {
     pub line: StatusLine,
 }
 
+// What was known where the reading stopped.
+fn stopped(end: Passed, line: StatusLine) -> StatusLineRead
+    ensures { λ r. ⌜ tell (r .end) (r .line) ≡ tell end line ⌝ }
+{
+    StatusLineRead { end, line }
+}
+
 // The end of a reason's line.
 fn reason_end(s: &[u8], at: usize, reason: Piece) -> Found
     ensures { λ r. ⌜ foundOf r ≡ ended reason (lineEnd default Status (now (s .entry)) at) ⌝ }
@@ -69,14 +76,8 @@ fn status_reason(s: &[u8], at: usize, line: StatusLine) -> StatusLineRead
                 },
             }
         }
-        Found::More => StatusLineRead {
-            end: Passed::More,
-            line,
-        },
-        Found::Bad(e) => StatusLineRead {
-            end: Passed::Bad(e),
-            line,
-        },
+        Found::More => stopped(Passed::More, line),
+        Found::Bad(e) => stopped(Passed::Bad(e), line),
     }
 }
 
@@ -87,14 +88,8 @@ fn status_behind(s: &[u8], at: usize, line: StatusLine) -> StatusLineRead
     let passed = spaces::behind_code(s, at);
     match passed {
         Passed::At(next) => status_reason(s, next, line),
-        Passed::More => StatusLineRead {
-            end: Passed::More,
-            line,
-        },
-        Passed::Bad(e) => StatusLineRead {
-            end: Passed::Bad(e),
-            line,
-        },
+        Passed::More => stopped(Passed::More, line),
+        Passed::Bad(e) => stopped(Passed::Bad(e), line),
     }
 }
 
@@ -117,14 +112,8 @@ fn status_code(s: &[u8], at: usize, line: StatusLine) -> StatusLineRead
                 },
             )
         }
-        Number::More => StatusLineRead {
-            end: Passed::More,
-            line,
-        },
-        Number::Bad(e) => StatusLineRead {
-            end: Passed::Bad(e),
-            line,
-        },
+        Number::More => stopped(Passed::More, line),
+        Number::Bad(e) => stopped(Passed::Bad(e), line),
     }
 }
 
@@ -135,14 +124,8 @@ fn status_space(s: &[u8], at: usize, line: StatusLine) -> StatusLineRead
     let passed = spaces::space(s, at, Error::Version);
     match passed {
         Passed::At(next) => status_code(s, next, line),
-        Passed::More => StatusLineRead {
-            end: Passed::More,
-            line,
-        },
-        Passed::Bad(e) => StatusLineRead {
-            end: Passed::Bad(e),
-            line,
-        },
+        Passed::More => stopped(Passed::More, line),
+        Passed::Bad(e) => stopped(Passed::Bad(e), line),
     }
 }
 
@@ -165,14 +148,8 @@ fn status_version(s: &[u8], at: usize, line: StatusLine) -> StatusLineRead
                 },
             )
         }
-        Number::More => StatusLineRead {
-            end: Passed::More,
-            line,
-        },
-        Number::Bad(e) => StatusLineRead {
-            end: Passed::Bad(e),
-            line,
-        },
+        Number::More => stopped(Passed::More, line),
+        Number::Bad(e) => stopped(Passed::Bad(e), line),
     }
 }
 
@@ -188,13 +165,7 @@ pub fn status_line(s: &[u8]) -> StatusLineRead
     let passed = parts::empty_lines(s, 0);
     match passed {
         Passed::At(next) => status_version(s, next, line),
-        Passed::More => StatusLineRead {
-            end: Passed::More,
-            line,
-        },
-        Passed::Bad(e) => StatusLineRead {
-            end: Passed::Bad(e),
-            line,
-        },
+        Passed::More => stopped(Passed::More, line),
+        Passed::Bad(e) => stopped(Passed::Bad(e), line),
     }
 }

@@ -5,7 +5,7 @@ use native.Mathlib.Omega.{arith}
 use native.Mathlib.Nat.{add-zero}
 use mathlib.Core.Path.{_≡_, refl, _∙_}
 use mathlib.Core.List.{List, [], _∷_}
-use mathlib.Core.Bool.{true, false, cond}
+use mathlib.Core.Bool.{Bool, true, false, not, cond}
 use lib.Dec.{eqb}
 use lib.ListN.{length, getD, take, drop}
 use borrow.Author.Tests.{eq-eqb, ne-eqb}
@@ -108,13 +108,14 @@ module _ (xs : List ℕ) (at : ℕ) where
     pub target-bad : r < length xs → (getD xs r 0 ≡ 32 → ⊥) → bad Token ≡ target xs at
     target-bad l t = rw (target-some, run-in targetStep (some at seen) xs r l, k .stop l, ne-eqb _ _ t)
 
+    -- what the test of UTF-8 told comes before what it tells of, so that a search knows which test is meant
     module _ (l : r < length xs) (t : getD xs r 0 ≡ 32) where
-      pub target-end : utf8 (take (r - at) (drop at xs)) ≡ true → got (piece at r) (r + 1) ≡ target xs at
+      pub target-end : {w : Bool} → not w ≡ false → w ≡ utf8 (take (r - at) (drop at xs)) → got (piece at r) (r + 1) ≡ target xs at
       unfolding seen
-      target-end u = rw (target-some, run-in targetStep (some at seen) xs r l, k .stop l, eq-eqb _ _ t, anywhere (take (r - at) (drop at xs)) [] at 0, u)
+      target-end v u = rw (target-some, run-in targetStep (some at seen) xs r l, k .stop l, eq-eqb _ _ t, anywhere (take (r - at) (drop at xs)) [] at 0, told-true u v)
 
-      pub target-broken : utf8 (take (r - at) (drop at xs)) ≡ false → bad Token ≡ target xs at
+      pub target-broken : {w : Bool} → not w ≡ true → w ≡ utf8 (take (r - at) (drop at xs)) → bad Token ≡ target xs at
       unfolding seen
-      target-broken u = rw (target-some, run-in targetStep (some at seen) xs r l, k .stop l, eq-eqb _ _ t, anywhere (take (r - at) (drop at xs)) [] at 0, u)
+      target-broken v u = rw (target-some, run-in targetStep (some at seen) xs r l, k .stop l, eq-eqb _ _ t, anywhere (take (r - at) (drop at xs)) [] at 0, told-false u v)
 
 pub ruleset targets = (target-none, target-not, target-more, target-bad, target-end, target-broken, told-true, told-false)

@@ -15,7 +15,8 @@ use Rattle.agreement.specs.Places.{held}
 use Rattle.agreement.specs.Known.{fieldsIn, SlotsInside}
 use Rattle.plain.specs.Plain.{plain-version, plain-code, plain-field, plain-fields}
 use Rattle.output.specs.Put.{Adds, adds-nothing, adds-then}
-use Rattle.places.specs.Lies.{bytesOf, numberOf, one-point, Lies, AtMost, SlotsLie}
+use Rattle.startline.specs.Answers.{numberOf}
+use Rattle.places.specs.Lies.{bytesOf, one-point, Lies, AtMost, SlotsLie}
 use Rattle.places.specs.Slots.{one-more, fieldAt, SlotLies, fields-from, inside-first, inside-rest}
 
 pub piece-put : (s : List ℕ) (p : Piece) {at : ℕ} {before : List ℕ} {end : ℕ} {after : List ℕ} → Adds (take (p .offset + p .length - p .offset) (drop (p .offset) s)) at before end after → Adds (held s p) at before end after

@@ -6,7 +6,8 @@ ghost use Rattle.plain.specs.Plain.{plain-version, plain-code, plain-field, pla
 ghost use Rattle.agreement.specs.Places.{held};
 ghost use Rattle.agreement.specs.Known.{fieldsIn};
 ghost use Rattle.output.specs.Put.{Adds};
-ghost use Rattle.places.specs.Lies.{Lies, AtMost, SlotsLie, RequestLies, ResponseLies, bytesOf, one-point, numberOf, requestOf, statusOf};
+ghost use Rattle.startline.specs.Answers.{numberOf};
+ghost use Rattle.places.specs.Lies.{Lies, AtMost, SlotsLie, RequestLies, ResponseLies, bytesOf, one-point, requestOf, statusOf};
 ghost use Rattle.places.specs.Slots.{fieldAt, SlotLies};
 use heads::RequestHead;
 use heads::ResponseHead;

@@ -1,4 +1,4 @@
--- `chunks::behind_digits` meets its contract: each way through it is one way of its machine.
+-- `chunks::behind_digits` meets its contract: behind the blanks a semicolon begins the extension, a CR the line's end, any other byte is the error, and the end of the input asks for more.
 -- Assumes nothing.
 use borrow.Author.Needs.{needs}
 use Rattle.chunks.specs.Chunk.{behinds}

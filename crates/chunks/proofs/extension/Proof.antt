@@ -1,4 +1,4 @@
--- `chunks::extension` meets its contract: each way through it is one way of its machine.
+-- `chunks::extension` meets its contract: the extension goes on to its CR, and then comes the LF; without a CR more is wanted.
 -- Assumes nothing.
 use borrow.Author.Needs.{needs}
 use Rattle.chunks.specs.Chunk.{behinds}

@@ -1,4 +1,4 @@
--- `chunks::line_feed` meets its contract: each way through it is one way of its machine.
+-- `chunks::line_feed` meets its contract: an LF ends the line, any other byte is the error, and the end of the input asks for more.
 -- Assumes nothing.
 use borrow.Author.Needs.{needs}
 use Rattle.chunks.specs.Chunk.{behinds}

@@ -1,4 +1,4 @@
--- `headreader::placed_piece` meets its contract: a piece is empty, or it is not.
+-- `headreader::placed_piece` meets its contract: a piece of no length becomes 0, 0, and any other stays as it is.
 -- Assumes nothing.
 use borrow.Author.Needs.{needs}
 use Rattle.headreader.specs.Laws.{empty-piece, long-piece}

@@ -1,20 +1,9 @@
 -- `heads::request` meets its contract: its first line and its block are the head's two parts.
 -- Assumes nothing.
-use Prim.Native.Nat.{_/_}
-use lib.ListN.{length}
 use borrow.Author.Needs.{needs}
-use Rattle.heads.specs.Head.{head-block}
-use Rattle.heads.specs.Calls.{request-whole, calls}
+use Rattle.heads.specs.Calls.{calls}
 use Rattle.heads.proofs.request.Statement.{statement}
 use Rattle.heads.proofs.request.Tie as tie
-
-returns : tie.Need-returns
-returns c =
-    let u = c .before .before in
-    let v = u .before .before in
-    let w = v .before .before .before .before in
-    let a = w .before .before .before .args in
-    request-whole _ _ (head-block (w .request-line .ensures) (v .before .end .given .1) (a .s .now) (length (a .slots .now) / 4) (u .header-block .ensures))
 
 pub request-spec : {M : Type 1} → statement M
 request-spec =
@@ -26,6 +15,6 @@ request-spec =
     (λ c. search needs)
     (λ c. search needs)
     (λ c. search needs)
-    returns
+    (λ c. search (needs, calls))
     (λ c. search (needs, calls))
     (λ c. search (needs, calls)))

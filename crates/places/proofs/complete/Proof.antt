@@ -1,4 +1,4 @@
--- `places::complete` meets its contract: an end was reached, or not.
+-- `places::complete` meets its contract: only an end that was reached is complete.
 -- Assumes nothing.
 use borrow.Author.Needs.{needs}
 use Rattle.places.specs.Checks.{checks}

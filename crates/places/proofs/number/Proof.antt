@@ -1,4 +1,4 @@
--- `places::number` meets its contract: a number is known and small enough, or it is not.
+-- `places::number` meets its contract: a number that is known and no greater than the most is so; a greater one and one not known are not.
 -- Assumes nothing.
 use borrow.Author.Needs.{needs}
 use Rattle.places.specs.Checks.{checks}

@@ -1,4 +1,4 @@
--- `places::piece` meets its contract: a piece is known and lies in the input, or it does not.
+-- `places::piece` meets its contract: a piece that is known is looked for in the input, and one that is not known lies nowhere.
 -- Assumes nothing.
 use borrow.Author.Needs.{needs}
 use Rattle.places.specs.Checks.{checks}

@@ -16,6 +16,6 @@ response-spec =
     (λ c κs. search needs)
     (λ c. search (needs, lies))
     (λ c κs. search needs)
-    (λ c. search (needs, lies))
+    (λ c. search (needs, lies) depth 7)
     (λ c κs. search needs)
-    (λ c. search (needs, lies)))
+    (λ c. search (needs, lies) depth 7))

@@ -1,7 +1,7 @@
--- `places::slot` meets its contract: the name lies in the input, or not, and then the value.
+-- `places::slot` meets its contract: where the name lies in the input, the value decides.
 -- Assumes nothing.
 use borrow.Author.Needs.{needs}
-use Rattle.places.specs.Checks.{checks}
+use Rattle.places.specs.Checks.{lies}
 use Rattle.places.proofs.slot.Statement.{statement}
 use Rattle.places.proofs.slot.Tie as tie
 
@@ -15,7 +15,7 @@ slot-spec =
     (λ c. search needs)
     (λ c. search needs)
     (λ c κs. search needs)
-    (λ c. search (needs, checks))
+    (λ c. search (needs, lies))
     (λ c. search needs)
     (λ c. search needs)
     (λ c. search needs)
@@ -23,4 +23,4 @@ slot-spec =
     (λ c. search needs)
     (λ c. search needs)
     (λ c κs. search needs)
-    (λ c. search (needs, checks)))
+    (λ c. search (needs, lies)))

@@ -1,4 +1,4 @@
--- `places::within` meets its contract: a piece starts behind the input, or ends behind it, or lies in it.
+-- `places::within` meets its contract: a piece lies in the input unless it starts behind the input's end or is longer than what is left.
 -- Assumes nothing.
 use borrow.Author.Needs.{needs}
 use Rattle.places.specs.Checks.{checks}

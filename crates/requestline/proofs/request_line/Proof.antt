@@ -1,4 +1,4 @@
--- `requestline::request_line` meets its contract: a match on the empty lines is a way of the line.
+-- `requestline::request_line` meets its contract: behind the empty lines comes the method; where those run out or are wrong, nothing is known yet.
 -- Assumes nothing.
 use borrow.Author.Needs.{needs}
 use Rattle.parts.specs.Ways.{ways}
@@ -14,7 +14,9 @@ request-line-spec =
     (λ c. search needs)
     (λ c κs. search needs)
     (λ c. search needs)
+    (λ c κs. search needs)
     (λ c. search needs)
+    (λ c κs. search needs)
     (λ c. search (needs, request-line-whole, ways))
     (λ c. search (needs, request-line-whole, ways))
     (λ c. search (needs, request-line-whole, ways)))

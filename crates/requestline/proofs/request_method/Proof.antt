@@ -1,4 +1,4 @@
--- `requestline::request_method` meets its contract: a match on the part is a way of the line.
+-- `requestline::request_method` meets its contract: behind a method comes the target; where the input runs out or the method is wrong, no more is known than before it.
 -- Assumes nothing.
 use borrow.Author.Needs.{needs}
 use Rattle.parts.specs.Ways.{ways}
@@ -13,7 +13,9 @@ request-method-spec =
     (λ c. search needs)
     (λ c κs. search needs)
     (λ c. search needs)
+    (λ c κs. search needs)
     (λ c. search needs)
+    (λ c κs. search needs)
     (λ c. search (needs, ways))
     (λ c. search (needs, ways))
     (λ c. search (needs, ways)))

@@ -1,4 +1,4 @@
--- `statusline::reason_end` meets its contract: a match on the part is a way of the line.
+-- `statusline::reason_end` meets its contract: a line that ends gives the reason; one that runs out or ends wrongly gives that.
 -- Assumes nothing.
 use borrow.Author.Needs.{needs}
 use Rattle.parts.specs.Ways.{ways}

@@ -1,4 +1,4 @@
--- `statusline::reason_line` meets its contract: a match on the part is a way of the line.
+-- `statusline::reason_line` meets its contract: behind a reason comes the end of its line; a reason that runs out or is wrong gives that.
 -- Assumes nothing.
 use borrow.Author.Needs.{needs}
 use Rattle.parts.specs.Ways.{ways}

@@ -1,4 +1,4 @@
--- `statusline::status_line` meets its contract: a match on the empty lines is a way of the line.
+-- `statusline::status_line` meets its contract: behind the empty lines comes the version; where those run out or are wrong, nothing is known yet.
 -- Assumes nothing.
 use borrow.Author.Needs.{needs}
 use Rattle.parts.specs.Ways.{ways}
@@ -14,7 +14,9 @@ status-line-spec =
     (λ c. search needs)
     (λ c κs. search needs)
     (λ c. search needs)
+    (λ c κs. search needs)
     (λ c. search needs)
+    (λ c κs. search needs)
     (λ c. search (needs, status-line-whole, ways))
     (λ c. search (needs, status-line-whole, ways))
     (λ c. search (needs, status-line-whole, ways)))

@@ -1,4 +1,4 @@
--- `statusline::status_reason` meets its contract: a match on the part is a way of the line.
+-- `statusline::status_reason` meets its contract: a reason is known where its line ended; where that runs out or is wrong, no more is known than before it.
 -- Assumes nothing.
 use borrow.Author.Needs.{needs}
 use Rattle.parts.specs.Ways.{ways}
@@ -12,7 +12,9 @@ status-reason-spec =
     (λ c κs. search needs)
     (λ c. search needs)
     (λ c. search needs)
+    (λ c κs. search needs)
     (λ c. search needs)
+    (λ c κs. search needs)
     (λ c. search (needs, ways))
     (λ c. search (needs, ways))
     (λ c. search (needs, ways)))

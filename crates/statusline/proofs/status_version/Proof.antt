@@ -1,4 +1,4 @@
--- `statusline::status_version` meets its contract: a match on the part is a way of the line.
+-- `statusline::status_version` meets its contract: behind a version comes the space; where the input runs out or the version is wrong, no more is known than before it.
 -- Assumes nothing.
 use borrow.Author.Needs.{needs}
 use Rattle.parts.specs.Ways.{ways}
@@ -13,7 +13,9 @@ status-version-spec =
     (λ c. search needs)
     (λ c κs. search needs)
     (λ c. search needs)
+    (λ c κs. search needs)
     (λ c. search needs)
+    (λ c κs. search needs)
     (λ c. search (needs, ways))
     (λ c. search (needs, ways))
     (λ c. search (needs, ways)))

@@ -1,4 +1,4 @@
--- `words::token` meets its contract: each way through it is one way of its machine.
+-- `words::token` meets its contract: token bytes and their end byte are a word; the end of the input asks for more, and any other byte is the error.
 -- Assumes nothing.
 use borrow.Author.Needs.{needs}
 use Rattle.words.specs.Word.{words}

@@ -1,10 +1,10 @@
--- `replay::read_number` meets its contract: every position is within the row.
+-- `replay::row::read_number` meets its contract: every position is within the row.
 -- Assumes nothing.
 use Prim.Native.Nat.{_-_}
 use borrow.Author.Needs.{needs}
 use lib.ListN.{length}
-use Rattle.replay.proofs.read_number.Statement.{statement}
-use Rattle.replay.proofs.read_number.Tie as tie
+use Rattle.replay.proofs.row.read_number.Statement.{statement}
+use Rattle.replay.proofs.row.read_number.Tie as tie
 
 abbrev Inv-loop : tie.InvT-loop
 Inv-loop s at i₀ value₀ i value = Unit {0}

@@ -1,4 +1,4 @@
--- `replay::read_input` meets its contract: every position is within the row, and the input has room.
+-- `replay::row::read_input` meets its contract: every position is within the row, and the input has room.
 -- Assumes nothing.
 use Prim.Native.Nat.{_-_}
 use borrow.Author.Needs.{needs}
@@ -6,8 +6,8 @@ use Prim.Native.Nat.{_≤_}
 use mathlib.Core.Path.{_≡_}
 use native.Mathlib.Omega.{arith}
 use lib.ListN.{length, length-set}
-use Rattle.replay.proofs.read_input.Statement.{statement}
-use Rattle.replay.proofs.read_input.Tie as tie
+use Rattle.replay.proofs.row.read_input.Statement.{statement}
+use Rattle.replay.proofs.row.read_input.Tie as tie
 
 abbrev Inv-loop : tie.InvT-loop
 Inv-loop s at input₀ i₀ count₀ input i count = (count ≤ length input) × (length input ≡ length input₀)
