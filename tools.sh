@@ -15,6 +15,13 @@ need() {
     done
 }
 
+# writable FOLDER: makes it where it is missing; standard error says if nothing can be written there, and what to do
+writable() {
+    mkdir -p "$1" 2>/dev/null && [ -w "$1" ] && return
+    echo "${0##*/}: $1 can't be written to: copy the repository to a folder of your own and call $0 there" >&2
+    return 1
+}
+
 # install WHAT PACKAGE..: from Debian's packages; what is said is shown only where that fails
 install() {
     local what=$1 said
