@@ -2,37 +2,8 @@
 
 use crate::numbers::Numbers;
 use crate::Case;
+use answers::functions::{hr_chunk_size, hr_headers, hr_request, hr_response, DEFAULT};
 use answers::Call;
-
-extern "C" {
-    fn hr_request(
-        start: *const u8,
-        length: usize,
-        slots: *mut u64,
-        room: usize,
-        out: *mut u64,
-        settings: u32,
-    ) -> u32;
-    fn hr_response(
-        start: *const u8,
-        length: usize,
-        slots: *mut u64,
-        room: usize,
-        out: *mut u64,
-        settings: u32,
-    ) -> u32;
-    fn hr_headers(
-        start: *const u8,
-        length: usize,
-        slots: *mut u64,
-        room: usize,
-        out: *mut u64,
-    ) -> u32;
-    fn hr_chunk_size(start: *const u8, length: usize, out: *mut u64) -> u32;
-}
-
-/// All settings off.
-const DEFAULT: u32 = 0;
 
 /// Makes the call; `numbers` must have been lent with the room of the case.
 pub fn read(case: &Case, numbers: &mut Numbers) {

@@ -1,7 +1,7 @@
-//! httparse's public interface by name and type: compiled once for each reader, so that each has
+//! httparse's public interface by name and type: compiled once for each library, so that each has
 //! it.
 
-use super::reader::{
+use super::library::{
     parse_chunk_size, parse_headers, Error, Header, InvalidChunkSize, ParserConfig, Request,
     Response, Result, Status, EMPTY_HEADER,
 };

@@ -1,6 +1,6 @@
 //! A caller of Headreader.
 
-use headreader as reader;
+use headreader as library;
 
 #[path = "caller.rs"]
 mod caller;

@@ -1,6 +1,6 @@
 //! A caller of httparse.
 
-use httparse as reader;
+use httparse as library;
 
 #[path = "caller.rs"]
 mod caller;
