@@ -94,6 +94,17 @@ mod tests {
     }
 
     #[test]
+    fn headreader_is_what_is_compared() {
+        assert!(ours::name().starts_with("headreader::"));
+        assert!(theirs::name().starts_with("httparse::"));
+        let caller = TypesComparer::of_headreader().caller;
+        assert!(std::ptr::fn_addr_eq(
+            caller,
+            ours::call as fn(&Case, Way) -> Seen
+        ));
+    }
+
+    #[test]
     fn all_of_a_request_is_seen() {
         for call in [ours::call, theirs::call] {
             let seen = call(&case(3, HEAD), Way::Alone);

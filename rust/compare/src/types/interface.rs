@@ -100,6 +100,12 @@ const _: fn(Error) = |error| match error {
     Error::Token | Error::TooManyHeaders | Error::Version => (),
 };
 
+/// What the compiler calls one of the types, the library's name first.
+#[cfg(test)]
+pub fn name() -> &'static str {
+    std::any::type_name::<Request>()
+}
+
 /// All that is shown or said of what does not depend on an input.
 pub fn texts() -> Vec<String> {
     let mut texts: Vec<String> = ERRORS.iter().map(error_texts).collect();

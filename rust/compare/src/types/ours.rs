@@ -8,4 +8,6 @@ mod caller;
 mod interface;
 
 pub use caller::call;
+#[cfg(test)]
+pub use interface::name;
 pub use interface::texts;
