@@ -1,4 +1,4 @@
-# Sourced by test, build, fuzz, bench and headread: what they need and a machine may lack, told in one wording.
+# Sourced by test, build, fuzz, bench, headread and grammar-edits/run: what they need and a machine may lack, told in one wording.
 
 # need TOOL..: whether each is on the PATH; standard error says which is not, and what to do
 need() {
@@ -13,6 +13,13 @@ need() {
         echo "${0##*/}: $tool is not on the PATH: install $kit and call $0 again" >&2
         return 1
     done
+}
+
+# need_httparse: whether the crate that Headreader is held to is beside the repository, where we are
+need_httparse() {
+    [ -f ../shared/docs/src/Cargo.toml ] && return
+    echo "${0##*/}: httparse 1.10.1 is not in ../shared/docs/src: put the unmodified crate there and call $0 again" >&2
+    return 1
 }
 
 # writable FOLDER: makes it where it is missing; standard error says if nothing can be written there, and what to do

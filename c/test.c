@@ -35,7 +35,8 @@ struct expected {
 };
 
 static const struct expected CASES[] = {
-    {REQUEST, "GET / HTTP/1.1\r\nHost: a\r\nX:\r\n\r\nbody", HR_COMPLETE, {31, 2, REQUEST_LINE, 0, 3, 4, 1, 1}, {16, 4, 22, 1, 25, 1, 27, 0}},
+    {REQUEST, "GET / HTTP/1.1\r\nHost: a\r\nX:\r\n\r\nbody", HR_COMPLETE,
+     {31, 2, REQUEST_LINE, 0, 3, 4, 1, 1}, {16, 4, 22, 1, 25, 1, 27, 0}},
     {REQUEST, "GET / HTTP/1.0\nA: b\n", HR_INCOMPLETE, {0, 1, REQUEST_LINE, 0, 3, 4, 1, 0}, {15, 1, 18, 1}},
     {REQUEST, "GET /", HR_INCOMPLETE, {0, 0, HR_KNOWS_METHOD, 0, 3, 0, 0, 0}, {0}},
     {REQUEST, " ", HR_TOKEN, {0}, {0}},

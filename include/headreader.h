@@ -46,8 +46,8 @@ extern "C" {
 uint32_t hr_request(const uint8_t *buf, size_t len, uint64_t *slots, size_t slots_len, uint64_t out[8], uint32_t settings);
 
 /*
- * A response. settings is 0 as above. out: 0, 1, 2 as above; 3 the minor version; 4 the code; 5, 6 the reason's offset and length, 0 and 0 where it is
- * empty; 7 is 0.
+ * A response. out: 0, 1, 2 as above; 3 the minor version; 4 the code; 5, 6 the reason's offset and length, 0 and 0 where it is
+ * empty; 7 is 0. settings as above.
  */
 uint32_t hr_response(const uint8_t *buf, size_t len, uint64_t *slots, size_t slots_len, uint64_t out[8], uint32_t settings);
 
