@@ -12,6 +12,10 @@
 #define NUMBERS (SLOTS * 4)
 #define UNTOUCHED UINT64_C(0xA5A55A5AA5A55A5A)
 
+/* What is known of a start line that was read whole. */
+#define REQUEST_LINE (HR_KNOWS_METHOD | HR_KNOWS_TARGET | HR_KNOWS_VERSION)
+#define STATUS_LINE (HR_KNOWS_VERSION | HR_KNOWS_CODE | HR_KNOWS_REASON)
+
 enum call { REQUEST, RESPONSE, HEADERS, CHUNK_SIZE };
 
 /* All that a call leaves behind, with a number on either side of what it may write. */
@@ -31,15 +35,17 @@ struct expected {
 };
 
 static const struct expected CASES[] = {
-    {REQUEST, "GET / HTTP/1.1\r\nHost: a\r\nX:\r\n\r\nbody", HR_COMPLETE, {31, 2, 7, 0, 3, 4, 1, 1}, {16, 4, 22, 1, 25, 1, 27, 0}},
-    {REQUEST, "GET / HTTP/1.0\nA: b\n", HR_INCOMPLETE, {0, 1, 7, 0, 3, 4, 1, 0}, {15, 1, 18, 1}},
-    {REQUEST, "GET /", HR_INCOMPLETE, {0, 0, 1, 0, 3, 0, 0, 0}, {0}},
+    {REQUEST, "GET / HTTP/1.1\r\nHost: a\r\nX:\r\n\r\nbody", HR_COMPLETE,
+     {31, 2, REQUEST_LINE, 0, 3, 4, 1, 1}, {16, 4, 22, 1, 25, 1, 27, 0}},
+    {REQUEST, "GET / HTTP/1.0\nA: b\n", HR_INCOMPLETE, {0, 1, REQUEST_LINE, 0, 3, 4, 1, 0}, {15, 1, 18, 1}},
+    {REQUEST, "GET /", HR_INCOMPLETE, {0, 0, HR_KNOWS_METHOD, 0, 3, 0, 0, 0}, {0}},
     {REQUEST, " ", HR_TOKEN, {0}, {0}},
-    {REQUEST, "GET / HTTP/2", HR_VERSION, {0, 0, 3, 0, 3, 4, 1, 0}, {0}},
-    {REQUEST, "GET / HTTP/1.1\r\n\rA", HR_NEW_LINE, {0, 0, 7, 0, 3, 4, 1, 1}, {0}},
-    {RESPONSE, "HTTP/1.1 200 OK\r\nA: b\r\n\r\n", HR_COMPLETE, {25, 1, 28, 1, 200, 13, 2, 0}, {17, 1, 20, 1}},
-    {RESPONSE, "HTTP/1.0 204\r\n\r\n", HR_COMPLETE, {16, 0, 28, 0, 204, 0, 0, 0}, {0}},
-    {RESPONSE, "HTTP/1.1 x", HR_STATUS, {0, 0, 4, 1, 0, 0, 0, 0}, {0}},
+    {REQUEST, "GET / HTTP/2", HR_VERSION, {0, 0, HR_KNOWS_METHOD | HR_KNOWS_TARGET, 0, 3, 4, 1, 0}, {0}},
+    {REQUEST, "GET / HTTP/1.1\r\n\rA", HR_NEW_LINE, {0, 0, REQUEST_LINE, 0, 3, 4, 1, 1}, {0}},
+    {RESPONSE, "HTTP/1.1 200 OK\r\nA: b\r\n\r\n", HR_COMPLETE, {25, 1, STATUS_LINE, 1, 200, 13, 2, 0}, {17, 1, 20, 1}},
+    {RESPONSE, "HTTP/1.0 204\r\n\r\n", HR_COMPLETE, {16, 0, STATUS_LINE, 0, 204, 0, 0, 0}, {0}},
+    {RESPONSE, "HTTP/1.1 204", HR_INCOMPLETE, {0, 0, HR_KNOWS_VERSION | HR_KNOWS_CODE, 1, 204, 0, 0, 0}, {0}},
+    {RESPONSE, "HTTP/1.1 x", HR_STATUS, {0, 0, HR_KNOWS_VERSION, 1, 0, 0, 0, 0}, {0}},
     {HEADERS, "A: b\r\nC: d\r\n\r\n", HR_COMPLETE, {14, 2, 0, 0, 0, 0, 0, 0}, {0, 1, 3, 1, 6, 1, 9, 1}},
     {HEADERS, "A b\n", HR_HEADER_NAME, {0}, {0}},
     {HEADERS, "A: b\nC:\001", HR_HEADER_VALUE, {0, 1, 0, 0, 0, 0, 0, 0}, {0, 1, 3, 1}},
@@ -130,6 +136,21 @@ static void test_before_a_wall(const struct expected *expected, uint8_t *wall) {
     }
 }
 
+/* One header has room in seven numbers, and none in three: the second is one too many, and what is left over stays as it was. */
+static void test_few_slots(void) {
+    static const struct expected TWO = {HEADERS, "A:b\nC:d\n\n", HR_TOO_MANY_HEADERS, {0}, {0, 1, 2, 1}};
+    for (size_t room = 0; room < 8; room++) {
+        uint64_t slots[8], out[8];
+        for (size_t i = 0; i < 8; i++)
+            slots[i] = UNTOUCHED;
+        uint32_t status = hr_headers((const uint8_t *)TWO.input, strlen(TWO.input), slots, room, out);
+        bool good = status == TWO.status && out[1] == room / 4;
+        for (size_t i = 0; i < 8; i++)
+            good = good && slots[i] == (i < room / 4 * 4 ? TWO.slots[i] : UNTOUCHED);
+        count(good, "few slots", &TWO);
+    }
+}
+
 int main(void) {
     size_t page = (size_t)sysconf(_SC_PAGESIZE);
     uint8_t *pages = mmap(NULL, 2 * page, PROT_READ | PROT_WRITE, MAP_PRIVATE | MAP_ANONYMOUS, -1, 0);
@@ -139,6 +160,7 @@ int main(void) {
         test_allocated(&CASES[i]);
         test_before_a_wall(&CASES[i], pages + page);
     }
+    test_few_slots();
     printf("%d passed, %d failed\n", passed, failed);
     return failed != 0;
 }

@@ -38,24 +38,16 @@ extern "C" {
 #define HR_KNOWS_CODE 8u
 #define HR_KNOWS_REASON 16u
 
-/* The bits of settings. None has an effect yet. */
-#define HR_SPACES_AFTER_HEADER_NAME 1u
-#define HR_MULTI_LINE_HEADERS 2u
-#define HR_MULTIPLE_SPACES_IN_REQUEST_LINE 4u
-#define HR_MULTIPLE_SPACES_IN_STATUS_LINE 8u
-#define HR_SPACE_BEFORE_FIRST_HEADER_NAME 16u
-#define HR_IGNORE_INVALID_HEADERS_IN_RESPONSES 32u
-#define HR_IGNORE_INVALID_HEADERS_IN_REQUESTS 64u
-
 /*
  * A request. out: 0 the position behind the head, and 0 where it is not complete; 1 how many headers were given; 2 what is known;
  * 3, 4 the method's offset and length; 5, 6 the target's; 7 the minor version. What is not known is 0. slots_len counts numbers.
+ * settings is 0: httparse's settings come one by one, each with its bit, and no bit has an effect yet.
  */
 uint32_t hr_request(const uint8_t *buf, size_t len, uint64_t *slots, size_t slots_len, uint64_t out[8], uint32_t settings);
 
 /*
  * A response. out: 0, 1, 2 as above; 3 the minor version; 4 the code; 5, 6 the reason's offset and length, 0 and 0 where it is
- * empty; 7 is 0.
+ * empty; 7 is 0. settings as above.
  */
 uint32_t hr_response(const uint8_t *buf, size_t len, uint64_t *slots, size_t slots_len, uint64_t out[8], uint32_t settings);
 

@@ -10,19 +10,17 @@ pub enum Input {
 }
 
 // A descriptor of the file that an argument names, or -1. Argument 0, the program's own name, stands for standard input.
-pub fn open(file: usize) -> i32 {
+pub fn open(file: usize, name: &[u8]) -> i32 {
     if file == 0 {
         return STDIN_FILENO;
     }
-    let mut name = io::buffer();
-    let n = os::arg(file, &mut name);
     if os::errno() != 0 {
         refuse(b"the file's name");
         return -1;
     }
-    let descriptor = os::open_read(&name[..n]);
+    let descriptor = os::open_read(name);
     if descriptor < 0 {
-        refuse(&name[..n]);
+        refuse(name);
     }
     descriptor
 }
@@ -45,8 +43,22 @@ pub fn read(descriptor: i32, buffer: &mut [u8]) -> Input {
     Input::TooLong
 }
 
+// Says what the system has against reading what was opened.
+pub fn refuse_read(file: usize, name: &[u8]) {
+    if file != 0 {
+        refuse(name);
+        return;
+    }
+    io::write_all(STDERR_FILENO, b"headread: ");
+    os::fail(b"standard input");
+    io::write_all(
+        STDERR_FILENO,
+        b"headread: hand over the input, as in headread request < FILE, or name a file\n",
+    );
+}
+
 // Says what the system has against a file or its name.
-pub fn refuse(what: &[u8]) {
+fn refuse(what: &[u8]) {
     io::write_all(STDERR_FILENO, b"headread: ");
     os::fail(what);
     io::write_all(

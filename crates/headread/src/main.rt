@@ -22,7 +22,10 @@ fn main() {
 
 // Reads the file that an argument names, and shows what is in it.
 fn read(kind: Kind, mode: Mode, file: usize) {
-    let descriptor = input::open(file);
+    // taken before the input is read, since it sets errno
+    let mut name = io::buffer();
+    let n = os::arg(file, &mut name);
+    let descriptor = input::open(file, &name[..n]);
     if descriptor < 0 {
         return;
     }
@@ -30,8 +33,8 @@ fn read(kind: Kind, mode: Mode, file: usize) {
     let mut buffer = [0u8; 65537];
     let found = input::read(descriptor, &mut buffer);
     match found {
-        Input::Bytes(n) => show(kind, mode, part(&buffer, 0, n)),
-        Input::Unreadable => input::refuse(b"the input"),
+        Input::Bytes(length) => show(kind, mode, part(&buffer, 0, length)),
+        Input::Unreadable => input::refuse_read(file, &name[..n]),
         Input::TooLong => input::refuse_long(),
     }
 }

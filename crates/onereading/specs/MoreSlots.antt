@@ -113,5 +113,5 @@ module _ (n n′ : ℕ) (h : n ≤ n′) (s : List ℕ) {old old′ : List ℕ} 
   unfolding response
   response-roomier T U = wider-told (head-wider default n n′ h (statuses.statusLineStep default) statuses.lineKnown (first start) s) T U
 
-pub headers-roomier : (n n′ : ℕ) (h : n ≤ n′) (s : List ℕ) {r r′ : Block} {old old′ new new′ : List ℕ} → blocks.Told (block default n [] s 0) r old new → blocks.Told (block default n′ [] s 0) r′ old′ new′ → MoreSlots (r .end) (r′ .end) tt tt (r .count) (r′ .count) old′ new new′
-headers-roomier n n′ h s T U = wider-told (over-wider tt (block-room default n n′ h s 0)) (alone-told T) (alone-told U)
+pub headers-roomier : (n n′ : ℕ) (h : n ≤ n′) (s : List ℕ) {r r′ : Block} {old old′ new new′ : List ℕ} → blocks.Told (block default n [] s 0) r old new → blocks.Told (block default n′ [] s 0) r′ old′ new′ → MoreSlots {K = Unit {0}} (r .end) (r′ .end) tt tt (r .count) (r′ .count) old′ new new′
+headers-roomier n n′ h s T U = wider-told (over-wider {K = Unit {0}} tt (block-room default n n′ h s 0)) (alone-told T) (alone-told U)

@@ -98,7 +98,7 @@ fn head_advice(page: &mut Page, at: usize, e: Error) -> usize {
             page,
             at,
             b"  wrong: this is one header too many: headread keeps 100
-  to do: look for a sender that repeats its headers
+  to do: look for a sender that repeats its headers; to read more, call the library with more slots
 ",
         ),
         Error::Version => put(
@@ -106,7 +106,7 @@ fn head_advice(page: &mut Page, at: usize, e: Error) -> usize {
             at,
             b"  wrong: the version is neither HTTP/1.0 nor HTTP/1.1
   to do: have the sender speak HTTP/1.1, and write a space in a target as %20;
-         if the input is a request, call headread request
+         if this was headread response and the input is a request, call headread request
 ",
         ),
     }

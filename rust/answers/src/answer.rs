@@ -1,4 +1,4 @@
-//! What a reader answers to a query, and how that is written.
+//! What a library answers to a query, and how that is written.
 
 use std::fmt;
 
@@ -49,7 +49,7 @@ pub enum Outcome {
     Error(Fault),
 }
 
-/// A reason that was read. An empty one has no place, since readers answer a constant there.
+/// A reason that was read. An empty one has no place, since httparse answers a constant there.
 #[derive(Clone, Copy, Debug, PartialEq, Eq)]
 pub enum Reason {
     Empty,

@@ -38,7 +38,7 @@ impl Answer {
 #[cfg(test)]
 mod tests {
     use super::*;
-    use crate::{ChunkSize, Fault, Header, Outcome, Piece, Reason, Slots};
+    use crate::{Fault, Header, Outcome, Piece, Slots};
 
     const HEADER: Header = Header {
         name: Piece {

@@ -1,6 +1,7 @@
-//! Queries to a reader of HTTP heads, their answers, and the text forms of both.
+//! Queries to a library that reads HTTP heads, their answers, and the text forms of both; and
+//! Headreader's C functions with their numbers.
 //!
-//! Nothing here knows which reader is asked. Every error is a sentence for people: what is wrong,
+//! No query knows which library is asked. Every error is a sentence for people: what is wrong,
 //! where, and what is expected.
 
 mod answer;
@@ -8,6 +9,7 @@ mod answer_text;
 mod call;
 pub mod differences;
 mod example;
+pub mod functions;
 mod number;
 mod query;
 pub mod quoted;

@@ -4,7 +4,7 @@ use crate::{number, quoted, Call, Settings};
 use std::fmt;
 use std::str::FromStr;
 
-/// One call of a reader. The text form is four columns separated by TABs.
+/// One call of a library. The text form is four columns separated by TABs.
 #[derive(Clone, Debug, PartialEq, Eq)]
 pub struct Query {
     pub call: Call,

@@ -1,4 +1,4 @@
-//! The results as bars: how long each reader takes where the first takes one.
+//! The results as bars: how long each contestant takes where the first takes one.
 
 use crate::statistics::Result;
 use std::fmt::Write;
@@ -17,7 +17,7 @@ const GAP: f64 = 24.0;
 const COLOURS: [&str; 5] = ["#4477aa", "#66ccee", "#228833", "#ccbb44", "#ee6677"];
 
 pub fn svg(results: &[Result]) -> String {
-    let readers = results
+    let contestants = results
         .iter()
         .take_while(|result| result.set == results[0].set)
         .count();
@@ -33,16 +33,16 @@ pub fn svg(results: &[Result]) -> String {
         "start",
         &format!(
             "Time to read a head, where {} takes 1: median of all rounds, with quartiles",
-            results[0].reader
+            results[0].contestant
         ),
     );
     svg += &scale(largest);
-    let sets = results.chunks(readers);
+    let sets = results.chunks(contestants);
     let width = (WIDTH as f64 - LEFT) / sets.len() as f64;
     for (number, set) in sets.enumerate() {
         svg += &group(set, LEFT + number as f64 * width, width - GAP, largest);
     }
-    svg += &legend(&results[..readers]);
+    svg += &legend(&results[..contestants]);
     svg + "</svg>\n"
 }
 
@@ -100,18 +100,18 @@ fn group(set: &[Result], left: f64, width: f64, largest: f64) -> String {
     svg + &text(left + width / 2.0, BOTTOM + 18.0, "middle", &set[0].set)
 }
 
-/// The colour of each reader.
-fn legend(readers: &[Result]) -> String {
+/// The colour of each contestant.
+fn legend(contestants: &[Result]) -> String {
     let mut svg = String::new();
-    let width = (WIDTH as f64 - LEFT) / readers.len() as f64;
-    for (number, result) in readers.iter().enumerate() {
+    let width = (WIDTH as f64 - LEFT) / contestants.len() as f64;
+    for (number, result) in contestants.iter().enumerate() {
         let x = LEFT + number as f64 * width;
         let colour = COLOURS[number % COLOURS.len()];
         let _ = writeln!(
             svg,
             "<rect x=\"{x:.1}\" y=\"382\" width=\"12\" height=\"12\" fill=\"{colour}\"/>"
         );
-        svg += &text(x + 18.0, 392.0, "start", &result.reader);
+        svg += &text(x + 18.0, 392.0, "start", &result.contestant);
     }
     svg
 }

@@ -1,6 +1,7 @@
-//! The readers that are measured, each as two C functions of one form.
+//! What is measured, each as two C functions of one form.
 
 use crate::heads::Kind;
+use answers::functions::{hr_request, hr_response, DEFAULT};
 use std::ffi::{c_char, c_int, c_void, CStr, CString};
 use std::hint::black_box;
 use std::mem::{transmute, MaybeUninit};
@@ -9,12 +10,12 @@ use std::mem::{transmute, MaybeUninit};
 pub type Slot = MaybeUninit<[u64; 4]>;
 
 /// Reads a head of `length` bytes with room for `count` headers, and answers its end, else 0.
-pub type Reader = unsafe extern "C" fn(*const u8, usize, *mut Slot, usize) -> usize;
+pub type Function = unsafe extern "C" fn(*const u8, usize, *mut Slot, usize) -> usize;
 
 pub struct Contestant {
     pub name: String,
-    request: Reader,
-    response: Reader,
+    request: Function,
+    response: Function,
 }
 
 impl Contestant {
@@ -41,7 +42,7 @@ impl Contestant {
         })
     }
 
-    pub fn reader(&self, kind: Kind) -> Reader {
+    pub fn function(&self, kind: Kind) -> Function {
         match kind {
             Kind::Request => self.request,
             Kind::Response => self.response,
@@ -57,36 +58,17 @@ extern "C" {
     fn dlsym(library: *mut c_void, name: *const c_char) -> *mut c_void;
 }
 
-fn find(library: *mut c_void, name: &CStr, path: &str) -> Result<Reader, String> {
+fn find(library: *mut c_void, name: &CStr, path: &str) -> Result<Function, String> {
     // SAFETY: the library is loaded and the name ends with a zero byte.
     let found = unsafe { dlsym(library, name.as_ptr()) };
     if found.is_null() {
         return Err(format!("{path} has no function {name:?}"));
     }
     // SAFETY: through/lib.rs gives the functions of these names this form.
-    Ok(unsafe { transmute::<*mut c_void, Reader>(found) })
+    Ok(unsafe { transmute::<*mut c_void, Function>(found) })
 }
 
 type Call = unsafe extern "C" fn(*const u8, usize, *mut u64, usize, *mut u64, u32) -> u32;
-
-extern "C" {
-    fn hr_request(
-        start: *const u8,
-        length: usize,
-        slots: *mut u64,
-        room: usize,
-        out: *mut u64,
-        settings: u32,
-    ) -> u32;
-    fn hr_response(
-        start: *const u8,
-        length: usize,
-        slots: *mut u64,
-        room: usize,
-        out: *mut u64,
-        settings: u32,
-    ) -> u32;
-}
 
 unsafe extern "C" fn headreader_request(
     start: *const u8,
@@ -124,7 +106,7 @@ unsafe fn headreader(
     // SAFETY: the caller's promise; a slot is four numbers, and `out` has the eight that every call
     // writes.
     let out = unsafe {
-        call(start, length, slots.cast(), room, told, 0);
+        call(start, length, slots.cast(), room, told, DEFAULT);
         out.assume_init()
     };
     black_box(&out)[0] as usize

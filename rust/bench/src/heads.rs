@@ -6,7 +6,7 @@ use crate::words::{
 };
 use answers::Random;
 
-/// How many heads a set has, so that no reader learns one by heart.
+/// How many heads a set has, so that no contestant learns one by heart.
 pub const HEADS: usize = 8;
 
 /// The lengths of heads.
@@ -54,7 +54,7 @@ pub fn sets() -> Vec<HeadSet> {
     sets
 }
 
-/// A first line, the usual headers in their order for up to three quarters of the length, and cookies for the rest.
+/// A start line, the usual headers in their order for up to three quarters of the length, and cookies for the rest.
 fn make(kind: Kind, length: usize, random: &mut Random) -> Vec<u8> {
     let (first_lines, headers, cookie, longest) = match kind {
         Kind::Request => (REQUEST_LINES, REQUEST_HEADERS, "Cookie: ", usize::MAX),

@@ -1,6 +1,6 @@
-//! Rounds in which every reader has its turn with every set of heads.
+//! Rounds in which every contestant has its turn with every set of heads.
 
-use crate::contestants::{Contestant, Reader, Slot};
+use crate::contestants::{Contestant, Function, Slot};
 use crate::heads::{HeadSet, HEADS};
 use std::hint::black_box;
 use std::time::Instant;
@@ -8,7 +8,7 @@ use std::time::Instant;
 /// How many headers there is room for: more than any head has.
 const SLOTS: usize = 64;
 
-/// How many bytes a reader reads in one turn: enough that the clock's own time is nothing.
+/// How many bytes a contestant reads in one turn: enough that the clock's own time is nothing.
 const TURN: usize = 100_000;
 
 /// One in so many rounds is run before the first that counts.
@@ -20,13 +20,13 @@ pub type Samples = Vec<Vec<Vec<f64>>>;
 /// What is done in how many rounds.
 pub fn line(rounds: usize, sets: &[HeadSet]) -> String {
     format!(
-        "{rounds} rounds, in each of which every reader has a turn with each of {} sets of {HEADS} heads, in an order that changes; \
+        "{rounds} rounds, in each of which every contestant has a turn with each of {} sets of {HEADS} heads, in an order that changes; \
          every call has the same {SLOTS} slots, which nobody initialises and each call uses again",
         sets.len()
     )
 }
 
-/// Measures all in turns; panics if a reader does not read each head to its end.
+/// Measures all in turns; panics if a contestant does not read each head to its end.
 pub fn measure(rounds: usize, sets: &[HeadSet], contestants: &[Contestant]) -> Samples {
     let mut slots = [Slot::uninit(); SLOTS];
     for set in sets {
@@ -46,9 +46,9 @@ pub fn measure(rounds: usize, sets: &[HeadSet], contestants: &[Contestant]) -> S
 }
 
 fn assert_all_are_read(set: &HeadSet, contestant: &Contestant, slots: &mut [Slot]) {
-    let reader = contestant.reader(set.kind);
+    let function = contestant.function(set.kind);
     for head in &set.heads {
-        let end = read(reader, head, slots);
+        let end = read(function, head, slots);
         let (name, text) = (&contestant.name, head.escape_ascii());
         assert_eq!(end, head.len(), "{name} does not read all of {text}");
     }
@@ -65,8 +65,8 @@ fn play(
     for (number, set) in sets.iter().enumerate() {
         for place in 0..contestants.len() {
             let contestant = turn(round + number, place, contestants.len());
-            let reader = contestants[contestant].reader(set.kind);
-            keep(number, contestant, time(reader, set, slots));
+            let function = contestants[contestant].function(set.kind);
+            keep(number, contestant, time(function, set, slots));
         }
     }
 }
@@ -81,22 +81,22 @@ fn turn(round: usize, place: usize, contestants: usize) -> usize {
     }
 }
 
-fn time(reader: Reader, set: &HeadSet, slots: &mut [Slot]) -> f64 {
+fn time(function: Function, set: &HeadSet, slots: &mut [Slot]) -> f64 {
     let laps = TURN / (set.length * set.heads.len()) + 1;
     let start = Instant::now();
     for _ in 0..laps {
         for head in &set.heads {
-            black_box(read(reader, head, slots));
+            black_box(read(function, head, slots));
         }
     }
     start.elapsed().as_nanos() as f64 / (laps * set.heads.len()) as f64
 }
 
 #[inline(always)]
-fn read(reader: Reader, head: &[u8], slots: &mut [Slot]) -> usize {
+fn read(function: Function, head: &[u8], slots: &mut [Slot]) -> usize {
     let head = black_box(head);
     // SAFETY: both pointers are to as many elements as the numbers behind them say.
-    unsafe { reader(head.as_ptr(), head.len(), slots.as_mut_ptr(), slots.len()) }
+    unsafe { function(head.as_ptr(), head.len(), slots.as_mut_ptr(), slots.len()) }
 }
 
 #[cfg(test)]

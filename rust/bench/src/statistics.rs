@@ -4,14 +4,14 @@ use crate::contestants::Contestant;
 use crate::heads::HeadSet;
 use crate::rounds::Samples;
 
-/// The times of one reader with one set of heads, in nanoseconds for one head.
+/// The times of one contestant with one set of heads, in nanoseconds for one head.
 pub struct Result {
     pub set: String,
     pub length: usize,
-    pub reader: String,
+    pub contestant: String,
     pub least: f64,
     pub median: f64,
-    /// The time divided by that of the first reader in the same round.
+    /// The time divided by that of the first contestant in the same round.
     pub ratio: Quartiles,
 }
 
@@ -22,7 +22,7 @@ pub struct Quartiles {
     pub third: f64,
 }
 
-/// A result for each set and each reader, set by set.
+/// A result for each set and each contestant, set by set.
 pub fn results(sets: &[HeadSet], contestants: &[Contestant], samples: &Samples) -> Vec<Result> {
     let mut results = Vec::new();
     for (set, of_set) in sets.iter().zip(samples) {
@@ -31,7 +31,7 @@ pub fn results(sets: &[HeadSet], contestants: &[Contestant], samples: &Samples) 
             results.push(Result {
                 set: set.name(),
                 length: set.length,
-                reader: contestant.name.clone(),
+                contestant: contestant.name.clone(),
                 least: times.iter().copied().fold(f64::INFINITY, f64::min),
                 median: quartiles(times.clone()).second,
                 ratio: quartiles(ratios.collect()),

@@ -12,7 +12,7 @@ pub fn text(results: &[Result]) -> String {
     });
     rows.insert(1, widths.map(|width| "-".repeat(width)));
     let table: String = rows.iter().map(|row| line(row, &widths)).collect();
-    let base = &results[0].reader;
+    let base = &results[0].contestant;
     format!("ratio: the time divided by that of {base} in the same round\n\n{table}")
 }
 
@@ -20,7 +20,7 @@ const COLUMNS: usize = 6;
 
 const HEADINGS: [&str; COLUMNS] = [
     "head",
-    "reader",
+    "contestant",
     "least ns",
     "median ns",
     "bytes/ns",
@@ -31,7 +31,7 @@ fn row(result: &Result) -> [String; COLUMNS] {
     let ratio = &result.ratio;
     [
         result.set.clone(),
-        result.reader.clone(),
+        result.contestant.clone(),
         format!("{:.1}", result.least),
         format!("{:.1}", result.median),
         format!("{:.2}", result.length as f64 / result.median),

@@ -12,7 +12,7 @@ pub const UNTOUCHED: u64 = 0xA5A5_5A5A_A5A5_5A5A;
 /// How many numbers stand on either side of the lent ones; no call may touch them.
 const GUARD: usize = 4;
 
-/// The answer of one call; two readers agree if all of it is equal, the guards too.
+/// The answer of one call; two libraries agree if all of it is equal, the guards too.
 #[derive(Clone, Default, PartialEq, Eq)]
 pub struct Numbers {
     pub status: u32,
@@ -57,7 +57,7 @@ impl Lent {
         &mut self.guarded[GUARD..end]
     }
 
-    /// Where the lent numbers begin, for a reader that might also write to the guards.
+    /// Where the lent numbers begin, for a library that might also write to the guards.
     pub fn pointer(&mut self) -> *mut u64 {
         self.guarded[..].as_mut_ptr().wrapping_add(GUARD)
     }

@@ -2,40 +2,19 @@
 
 use crate::numbers::Numbers;
 use crate::Case;
+use answers::functions::{hr_chunk_size, hr_headers, hr_request, hr_response, DEFAULT};
 use answers::Call;
 
-extern "C" {
-    fn hr_request(
-        start: *const u8,
-        length: usize,
-        slots: *mut u64,
-        room: usize,
-        out: *mut u64,
-        settings: u32,
-    ) -> u32;
-    fn hr_response(
-        start: *const u8,
-        length: usize,
-        slots: *mut u64,
-        room: usize,
-        out: *mut u64,
-        settings: u32,
-    ) -> u32;
-    fn hr_headers(
-        start: *const u8,
-        length: usize,
-        slots: *mut u64,
-        room: usize,
-        out: *mut u64,
-    ) -> u32;
-    fn hr_chunk_size(start: *const u8, length: usize, out: *mut u64) -> u32;
+#[cfg(test)]
+thread_local! {
+    /// How often Headreader was called: its answers alone do not tell it from httparse.
+    pub static CALLS: std::cell::Cell<u32> = const { std::cell::Cell::new(0) };
 }
-
-/// All settings off.
-const DEFAULT: u32 = 0;
 
 /// Makes the call; `numbers` must have been lent with the room of the case.
 pub fn read(case: &Case, numbers: &mut Numbers) {
+    #[cfg(test)]
+    CALLS.set(CALLS.get() + 1);
     let (start, length) = (case.input.as_ptr(), case.input.len());
     let (slots, room) = (numbers.slots.pointer(), numbers.slots.numbers().len());
     let out = numbers.out.pointer();

@@ -1,48 +1,39 @@
-//! The plain form that Headreader writes of a complete answer, and its way back through both readers.
+//! The plain form that Headreader writes of a complete answer, and its way back through both libraries.
 
 mod form;
 mod round_trip;
 
 use crate::numbers::Numbers;
 use answers::Call;
+// links libharness.a
 pub use form::form;
+use harness as _;
 pub use round_trip::RoundTrip;
 
-extern "C" {
-    fn harness_plain_request(
-        start: *const u8,
-        length: usize,
-        slots: *const u64,
-        room: usize,
-        kind: u32,
-        answer: *const u64,
-        out: *mut u8,
-        bytes: usize,
-        size: *mut u64,
-    ) -> u32;
-    fn harness_plain_response(
-        start: *const u8,
-        length: usize,
-        slots: *const u64,
-        room: usize,
-        kind: u32,
-        answer: *const u64,
-        out: *mut u8,
-        bytes: usize,
-        size: *mut u64,
-    ) -> u32;
-    fn harness_plain_headers(
-        start: *const u8,
-        length: usize,
-        slots: *const u64,
-        room: usize,
-        kind: u32,
-        answer: *const u64,
-        out: *mut u8,
-        bytes: usize,
-        size: *mut u64,
-    ) -> u32;
+/// Declares writers, which are all of one form.
+macro_rules! writers {
+    ($($name:ident),*) => {
+        extern "C" {
+            $(fn $name(
+                start: *const u8,
+                length: usize,
+                slots: *const u64,
+                room: usize,
+                kind: u32,
+                answer: *const u64,
+                out: *mut u8,
+                bytes: usize,
+                size: *mut u64,
+            ) -> u32;)*
+        }
+    };
 }
+
+writers!(
+    harness_plain_request,
+    harness_plain_response,
+    harness_plain_headers
+);
 
 /// What a writer answers.
 #[derive(Clone, Copy, Debug, PartialEq, Eq)]

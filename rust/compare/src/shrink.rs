@@ -1,4 +1,4 @@
-//! Makes an input on which two readers differ as short and as simple as it can be.
+//! Makes an input on which two libraries differ as short and as simple as it can be.
 
 /// Bytes by simplicity: each is put in place of any that stands behind it here, or nowhere.
 const SIMPLE: &[u8] = b"aA10/: \t\n\r";

@@ -2,7 +2,10 @@
 
 use crate::numbers::{Numbers, OUT, SLOT};
 use crate::Case;
-use answers::Call;
+use answers::functions::{
+    number, CODE, COMPLETE, INCOMPLETE, INVALID_CHUNK_SIZE, METHOD, REASON, TARGET, VERSION,
+};
+use answers::{Call, Fault};
 use httparse::{Error, Header, Status};
 
 /// What every slot holds before the call; known by its address, which no part of an input has.
@@ -13,17 +16,6 @@ static UNTOUCHED: Header<'static> = Header {
 
 /// As many slots as are lent without an allocation.
 const FEW: usize = 2;
-
-const COMPLETE: u32 = 0;
-const INCOMPLETE: u32 = 1;
-const INVALID_CHUNK_SIZE: u32 = 9;
-
-/// The bits of the fields that are known.
-const METHOD: u64 = 1;
-const TARGET: u64 = 2;
-const VERSION: u64 = 4;
-const CODE: u64 = 8;
-const REASON: u64 = 16;
 
 /// Makes the call; `numbers` must have been lent with the room of the case.
 pub fn read(case: &Case, numbers: &mut Numbers) {
@@ -149,13 +141,19 @@ fn status(result: &httparse::Result<usize>) -> u32 {
     match result {
         Ok(Status::Complete(_)) => COMPLETE,
         Ok(Status::Partial) => INCOMPLETE,
-        Err(Error::HeaderName) => 2,
-        Err(Error::HeaderValue) => 3,
-        Err(Error::NewLine) => 4,
-        Err(Error::Status) => 5,
-        Err(Error::Token) => 6,
-        Err(Error::TooManyHeaders) => 7,
-        Err(Error::Version) => 8,
+        Err(error) => number(fault(*error)),
+    }
+}
+
+fn fault(error: Error) -> Fault {
+    match error {
+        Error::HeaderName => Fault::HeaderName,
+        Error::HeaderValue => Fault::HeaderValue,
+        Error::NewLine => Fault::NewLine,
+        Error::Status => Fault::Status,
+        Error::Token => Fault::Token,
+        Error::TooManyHeaders => Fault::TooManyHeaders,
+        Error::Version => Fault::Version,
     }
 }
 

@@ -15,7 +15,7 @@ use seen::{ways, Seen, Way};
 pub use ours::texts as our_texts;
 pub use theirs::texts as their_texts;
 
-/// A caller of a reader that is to be as httparse, beside a caller of httparse.
+/// A caller of a library that is to be as httparse, beside a caller of httparse.
 pub struct TypesComparer {
     name: &'static str,
     caller: fn(&Case, Way) -> Seen,
@@ -94,6 +94,17 @@ mod tests {
     }
 
     #[test]
+    fn headreader_is_what_is_compared() {
+        assert!(ours::name().starts_with("headreader::"));
+        assert!(theirs::name().starts_with("httparse::"));
+        let caller = TypesComparer::of_headreader().caller;
+        assert!(std::ptr::fn_addr_eq(
+            caller,
+            ours::call as fn(&Case, Way) -> Seen
+        ));
+    }
+
+    #[test]
     fn all_of_a_request_is_seen() {
         for call in [ours::call, theirs::call] {
             let seen = call(&case(3, HEAD), Way::Alone);
@@ -137,7 +148,7 @@ mod tests {
         }
     }
 
-    /// A caller of a reader that loses the list wherever 0x80 stands.
+    /// A caller of a library that loses the list wherever 0x80 stands.
     fn wrong_at_0x80(case: &Case, way: Way) -> Seen {
         let mut seen = theirs::call(case, way);
         if case.input.contains(&0x80) {
@@ -148,12 +159,12 @@ mod tests {
 
     #[test]
     #[should_panic(
-        expected = "callers of a wrong reader and httparse differ on this query (Alone):
+        expected = "callers of a wrong library and httparse differ on this query (Alone):
 request\tdefault\t2\t\"\\x80\"
-a wrong reader: Seen { ended: [Error { name: \"Token\", text: \"invalid token\" }]"
+a wrong library: Seen { ended: [Error { name: \"Token\", text: \"invalid token\" }]"
     )]
     fn a_difference_is_told_with_the_shortest_input() {
         let long = [HEAD, &b"\x80".repeat(100)].concat();
-        TypesComparer::of("a wrong reader", wrong_at_0x80).compare(&case(2, &long));
+        TypesComparer::of("a wrong library", wrong_at_0x80).compare(&case(2, &long));
     }
 }

@@ -31,10 +31,16 @@ pub unsafe extern "C" fn fuzz_compare(start: *const u8, length: usize) {
         return;
     };
     let compare = || COMPARER.with_borrow_mut(|comparer| comparer.compare(&case));
-    if let Err(panic) = catch_unwind(AssertUnwindSafe(compare)) {
-        keep(&report(&*panic));
+    if let Some(report) = difference(compare) {
+        keep(&report);
         process::abort();
     }
+}
+
+/// What a comparison says of the difference that it gives up on, if there is one.
+fn difference(compare: impl FnOnce()) -> Option<String> {
+    let panic = catch_unwind(AssertUnwindSafe(compare)).err()?;
+    Some(report(&*panic))
 }
 
 /// What the comparer said of the difference when it gave up.
@@ -72,4 +78,18 @@ pub unsafe extern "C" fn fuzz_fresh(start: *mut u8, room: usize, seed: u32) -> u
     // SAFETY: the caller's promise, and the row is no longer than the room.
     unsafe { start.copy_from_nonoverlapping(row.as_ptr(), row.len()) };
     row.len()
+}
+
+#[cfg(test)]
+mod tests {
+    use super::*;
+
+    #[test]
+    fn a_difference_is_told_in_the_words_of_the_comparison() {
+        assert_eq!(difference(|| ()), None);
+        let told = difference(|| panic!("they differ"));
+        assert_eq!(told.as_deref(), Some("they differ"));
+        let told = difference(|| panic!("{} differ", 2));
+        assert_eq!(told.as_deref(), Some("2 differ"));
+    }
 }

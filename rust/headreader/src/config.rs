@@ -17,6 +17,10 @@ use core::mem::MaybeUninit;
 /// assert_eq!(read, Ok(headreader::Status::Complete(27)));
 /// ```
 #[derive(Clone, Debug, Default)]
+#[expect(
+    dead_code,
+    reason = "shown as httparse shows them; what sets and reads each comes with its setting"
+)]
 pub struct ParserConfig {
     allow_spaces_after_header_name_in_responses: bool,
     allow_obsolete_multiline_headers_in_responses: bool,
@@ -34,7 +38,7 @@ impl ParserConfig {
         request: &mut Request<'_, 'buf>,
         buf: &'buf [u8],
     ) -> Result<usize> {
-        request.read(buf, self.bits())
+        request.read(buf)
     }
 
     /// Reads as [`Request::parse_with_uninit_headers`] does, with these settings.
@@ -44,7 +48,7 @@ impl ParserConfig {
         buf: &'buf [u8],
         headers: &'headers mut [MaybeUninit<Header<'buf>>],
     ) -> Result<usize> {
-        request.read_into(buf, self.bits(), headers)
+        request.read_into(buf, headers)
     }
 
     /// Reads as [`Response::parse`] does, with these settings.
@@ -53,7 +57,7 @@ impl ParserConfig {
         response: &mut Response<'_, 'buf>,
         buf: &'buf [u8],
     ) -> Result<usize> {
-        response.read(buf, self.bits())
+        response.read(buf)
     }
 
     /// Reads as [`Response::parse`] does, with these settings and into memory with no headers in it
@@ -67,21 +71,6 @@ impl ParserConfig {
         buf: &'buf [u8],
         headers: &'headers mut [MaybeUninit<Header<'buf>>],
     ) -> Result<usize> {
-        response.read_into(buf, self.bits(), headers)
-    }
-
-    /// The settings as the proved code takes them, the first as the lowest bit.
-    fn bits(&self) -> u32 {
-        let settings = [
-            self.allow_spaces_after_header_name_in_responses,
-            self.allow_obsolete_multiline_headers_in_responses,
-            self.allow_multiple_spaces_in_request_line_delimiters,
-            self.allow_multiple_spaces_in_response_status_delimiters,
-            self.allow_space_before_first_header_name,
-            self.ignore_invalid_headers_in_responses,
-            self.ignore_invalid_headers_in_requests,
-        ];
-        let shift = |bits, on| bits << 1 | u32::from(on);
-        settings.into_iter().rev().fold(0, shift)
+        response.read_into(buf, headers)
     }
 }

@@ -1,11 +1,12 @@
-//! Reads the heads of HTTP/1 messages: the first line and the headers of a request or a response,
+//! Reads the heads of HTTP/1 messages: the start line and the headers of a request or a response,
 //! headers alone, and the line that says how long a chunk of a body is.
 //!
-//! The interface is that of the crate httparse 1.10.1, by name and type, and so are the answers.
-//! What reads is Headreader: code in which every function is proved to meet its contract. A
-//! complete answer means that a head ends there and that the fields are its own; an error, that no
-//! head that fits the lent headers begins there; partial, that none has ended yet; and none of them
-//! changes when more bytes arrive. `docs/PROVED.md` in Headreader's repository says what is proved.
+//! The interface is that of the crate httparse 1.10.1, by name and type, but for the setters of
+//! [`ParserConfig`], which come later; the answers are those of httparse's default settings. What
+//! reads is Headreader: code in which every function is proved to meet its contract. A complete
+//! answer means that a head ends there and that the fields are its own; an error, that no head that
+//! fits the lent headers begins there; partial, that none has ended yet; and none of them changes
+//! when more bytes arrive. `docs/PROVED.md` in Headreader's repository says what is proved.
 //!
 //! Nothing is copied and nothing is allocated: names and values are parts of the caller's buffer,
 //! and the headers stand in memory that the caller lends.
@@ -61,8 +62,8 @@
 //!
 //! # In httparse's place
 //!
-//! `httparse = { package = "headreader", path = ".." }` in a `Cargo.toml` is the whole change. What
-//! is not as in httparse:
+//! For a program that sets nothing of [`ParserConfig`], this line in its `Cargo.toml` is the whole
+//! change: `httparse = { package = "headreader", path = ".." }`. What is not as in httparse:
 //!
 //! - [`ParserConfig`] has no setters yet, so every head is read with the default settings.
 //! - An empty [`reason`](Response::reason) is the empty slice at the buffer's start. httparse gives

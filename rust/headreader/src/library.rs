@@ -38,6 +38,9 @@ extern "C" {
     fn hr_chunk_size(buffer: *const u8, length: usize, out: *mut Out) -> u32;
 }
 
+/// All settings off: httparse's come one by one, each with its bit.
+const SETTINGS: u32 = 0;
+
 /// The bits of the fields that are known.
 const METHOD: usize = 1;
 const TARGET: usize = 2;
@@ -45,7 +48,7 @@ const VERSION: usize = 4;
 const CODE: usize = 8;
 const REASON: usize = 16;
 
-/// What a call answers: how it ended, what is known of the first line by then, and the headers
+/// What a call answers: how it ended, what is known of the start line by then, and the headers
 /// given by then.
 pub struct Answer<'lent, 'buf, Line> {
     pub result: Result<usize>,
@@ -53,14 +56,14 @@ pub struct Answer<'lent, 'buf, Line> {
     pub headers: &'lent mut [Header<'buf>],
 }
 
-/// What is known of a request's first line.
+/// What is known of a request's start line.
 pub struct RequestLine<'buf> {
     pub method: Option<&'buf str>,
     pub target: Option<&'buf str>,
     pub version: Option<u8>,
 }
 
-/// What is known of a response's first line.
+/// What is known of a response's start line.
 pub struct StatusLine<'buf> {
     pub version: Option<u8>,
     pub code: Option<u16>,
@@ -71,7 +74,6 @@ pub struct StatusLine<'buf> {
 pub fn request<'lent, 'buf>(
     buffer: &'buf [u8],
     slots: Slots<'lent, 'buf>,
-    settings: u32,
 ) -> Answer<'lent, 'buf, RequestLine<'buf>> {
     let (start, length) = (buffer.as_ptr(), buffer.len());
     let (numbers, room) = (slots.numbers(), slots.room());
@@ -79,7 +81,7 @@ pub fn request<'lent, 'buf>(
     // SAFETY: the call demands nothing but that each pointer is to as many numbers as are said,
     // eight for `out`, and that what it writes is lent to it alone; what the slots hold does not
     // matter to it, and by `untouched` it is kept in those not given.
-    let kind = unsafe { hr_request(start, length, numbers, room, &mut out, settings) };
+    let kind = unsafe { hr_request(start, length, numbers, room, &mut out, SETTINGS) };
     let [end, given, known, method, method_length, target, target_length, version] = out;
     // SAFETY: that call was lent these slots and this buffer, and nothing has touched the slots
     // since.
@@ -107,13 +109,12 @@ pub fn request<'lent, 'buf>(
 pub fn response<'lent, 'buf>(
     buffer: &'buf [u8],
     slots: Slots<'lent, 'buf>,
-    settings: u32,
 ) -> Answer<'lent, 'buf, StatusLine<'buf>> {
     let (start, length) = (buffer.as_ptr(), buffer.len());
     let (numbers, room) = (slots.numbers(), slots.room());
     let mut out = Out::default();
     // SAFETY: as for a request.
-    let kind = unsafe { hr_response(start, length, numbers, room, &mut out, settings) };
+    let kind = unsafe { hr_response(start, length, numbers, room, &mut out, SETTINGS) };
     let [end, given, known, version, code, reason, reason_length, _] = out;
     // SAFETY: that call was lent these slots and this buffer, and nothing has touched the slots
     // since.

@@ -60,12 +60,12 @@ impl<'headers, 'buf> Request<'headers, 'buf> {
         ParserConfig::default().parse_request_with_uninit_headers(self, buf, headers)
     }
 
-    pub(crate) fn read(&mut self, buffer: &'buf [u8], settings: u32) -> Result<usize> {
+    pub(crate) fn read(&mut self, buffer: &'buf [u8]) -> Result<usize> {
         let Answer {
             result,
             line,
             headers,
-        } = library::request(buffer, (&mut *self.headers).into(), settings);
+        } = library::request(buffer, (&mut *self.headers).into());
         let given = headers.len();
         self.learn(line);
         if result.is_ok_and(|status| status.is_complete()) {
@@ -77,14 +77,13 @@ impl<'headers, 'buf> Request<'headers, 'buf> {
     pub(crate) fn read_into(
         &mut self,
         buffer: &'buf [u8],
-        settings: u32,
         headers: &'headers mut [MaybeUninit<Header<'buf>>],
     ) -> Result<usize> {
         let Answer {
             result,
             line,
             headers,
-        } = library::request(buffer, headers.into(), settings);
+        } = library::request(buffer, headers.into());
         self.learn(line);
         if result.is_ok_and(|status| status.is_complete()) {
             self.headers = headers;

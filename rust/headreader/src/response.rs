@@ -39,12 +39,12 @@ impl<'headers, 'buf> Response<'headers, 'buf> {
         ParserConfig::default().parse_response(self, buf)
     }
 
-    pub(crate) fn read(&mut self, buffer: &'buf [u8], settings: u32) -> Result<usize> {
+    pub(crate) fn read(&mut self, buffer: &'buf [u8]) -> Result<usize> {
         let Answer {
             result,
             line,
             headers,
-        } = library::response(buffer, (&mut *self.headers).into(), settings);
+        } = library::response(buffer, (&mut *self.headers).into());
         let given = headers.len();
         self.learn(line);
         if result.is_ok_and(|status| status.is_complete()) {
@@ -56,14 +56,13 @@ impl<'headers, 'buf> Response<'headers, 'buf> {
     pub(crate) fn read_into(
         &mut self,
         buffer: &'buf [u8],
-        settings: u32,
         headers: &'headers mut [MaybeUninit<Header<'buf>>],
     ) -> Result<usize> {
         let Answer {
             result,
             line,
             headers,
-        } = library::response(buffer, headers.into(), settings);
+        } = library::response(buffer, headers.into());
         self.learn(line);
         if result.is_ok_and(|status| status.is_complete()) {
             self.headers = headers;

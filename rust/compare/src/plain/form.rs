@@ -3,7 +3,7 @@
 use crate::numbers::{Numbers, OUT, SLOT};
 use answers::Call;
 
-/// Where the pieces of the first line stand in `out`.
+/// Where the pieces of the start line stand in `out`.
 fn line_pieces(call: Call) -> &'static [usize] {
     match call {
         Call::Request => &[3, 5],
@@ -12,7 +12,7 @@ fn line_pieces(call: Call) -> &'static [usize] {
     }
 }
 
-/// The numbers that a first line says.
+/// The numbers that a start line says.
 pub(super) fn numbers(call: Call, answer: &Numbers) -> [u64; 2] {
     let out: &[u64; OUT] = answer.out.numbers().try_into().expect("eight numbers");
     match call {
@@ -22,7 +22,7 @@ pub(super) fn numbers(call: Call, answer: &Numbers) -> [u64; 2] {
     }
 }
 
-/// The bytes of each piece of the first line, and of each name and value.
+/// The bytes of each piece of the start line, and of each name and value.
 pub(super) fn fields<'input>(
     call: Call,
     input: &'input [u8],

@@ -1,11 +1,11 @@
-//! The way of a plain form back through both readers.
+//! The way of a plain form back through both libraries.
 
 use super::form::{fields, form, numbers};
 use super::{write, Written, UNTOUCHED};
 use crate::numbers::Numbers;
 use crate::{ours, theirs, Case};
 
-/// What is put behind a plain form before it is read back: a reader must not care.
+/// What is put behind a plain form before it is read back: a library must not care.
 const BEHIND: &[u8] = b"A: b\r\n";
 
 /// The bytes, numbers and fields of one round trip, kept so that the next needs no allocation.
@@ -39,7 +39,7 @@ impl RoundTrip {
         self.read_back(case, answer)
     }
 
-    /// Both readers must find the same fields in what was written, and the same bytes are written of them.
+    /// Both libraries must find the same fields in what was written, and the same bytes are written of them.
     fn read_back(&mut self, case: &Case, answer: &Numbers) -> Result<(), String> {
         let length = self.written.len();
         self.written.extend_from_slice(BEHIND);
@@ -148,7 +148,7 @@ mod tests {
         assert_eq!(plain, b"HTTP/1.0 007 b c\r\nA: b c\r\n\r\n");
     }
 
-    /// Fields that no reader gives, each of which comes back as something else.
+    /// Fields that no library gives, each of which comes back as something else.
     #[test]
     fn fields_that_do_not_come_back_are_noticed() {
         for (wrong, place) in [

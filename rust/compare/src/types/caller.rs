@@ -1,6 +1,6 @@
-//! A caller that looks at all that it gets; compiled once for each reader.
+//! A caller that looks at all that it gets; compiled once for each library.
 
-use super::reader::{self, Header, ParserConfig, Request, Response, Status};
+use super::library::{self, Header, ParserConfig, Request, Response, Status};
 use crate::types::seen::{
     place, Ended, Line, Place, Seen, Way, OTHER_REQUEST, OTHER_RESPONSE, UNTOUCHED,
 };
@@ -101,7 +101,7 @@ fn response<'input>(case: &Case<'input>, way: Way, memory: &mut [Header<'input>]
 
 fn headers<'input>(case: &Case<'input>, memory: &mut [Header<'input>]) -> Seen {
     let first = memory.as_ptr();
-    let result = reader::parse_headers(case.input, &mut memory[..case.slots]);
+    let result = library::parse_headers(case.input, &mut memory[..case.slots]);
     let shown = format!("{result:?}");
     let (ended, list) = match result {
         Ok(Status::Complete((end, list))) => (Ended::Complete(end), Some(place(first, list))),
@@ -117,7 +117,7 @@ fn headers<'input>(case: &Case<'input>, memory: &mut [Header<'input>]) -> Seen {
 }
 
 fn chunk_size(input: &[u8]) -> Seen {
-    let result = reader::parse_chunk_size(input);
+    let result = library::parse_chunk_size(input);
     let shown = format!("{result:?}");
     let (ended, size) = match result {
         Ok(Status::Complete((end, size))) => (Ended::Complete(end), Some(size)),
@@ -132,12 +132,12 @@ fn chunk_size(input: &[u8]) -> Seen {
     }
 }
 
-/// The same memory for a reader that need not find headers in it.
+/// The same memory for a library that need not find headers in it.
 fn uninit<'lent, 'input>(
     headers: &'lent mut [Header<'input>],
 ) -> &'lent mut [MaybeUninit<Header<'input>>] {
     let lent: *mut [Header<'input>] = headers;
-    // SAFETY: the two have the same layout, and a reader writes nothing but headers.
+    // SAFETY: the two have the same layout, and a library writes nothing but headers.
     unsafe { &mut *(lent as *mut [MaybeUninit<Header<'input>>]) }
 }
 
@@ -149,7 +149,7 @@ fn shown(message: &impl Debug, way: Way) -> String {
     String::new()
 }
 
-fn ended(result: reader::Result<usize>) -> Ended {
+fn ended(result: library::Result<usize>) -> Ended {
     match result {
         Ok(Status::Complete(end)) => Ended::Complete(end),
         Ok(Status::Partial) => Ended::Partial,

@@ -1,7 +1,7 @@
-//! httparse's public interface by name and type: compiled once for each reader, so that each has
+//! httparse's public interface by name and type: compiled once for each library, so that each has
 //! it.
 
-use super::reader::{
+use super::library::{
     parse_chunk_size, parse_headers, Error, Header, InvalidChunkSize, ParserConfig, Request,
     Response, Result, Status, EMPTY_HEADER,
 };
@@ -99,6 +99,12 @@ const _: fn(Error) = |error| match error {
     Error::HeaderName | Error::HeaderValue | Error::NewLine | Error::Status => (),
     Error::Token | Error::TooManyHeaders | Error::Version => (),
 };
+
+/// What the compiler calls one of the types, the library's name first.
+#[cfg(test)]
+pub fn name() -> &'static str {
+    std::any::type_name::<Request>()
+}
 
 /// All that is shown or said of what does not depend on an input.
 pub fn texts() -> Vec<String> {

@@ -1,6 +1,6 @@
 //! A caller of Headreader.
 
-use headreader as reader;
+use headreader as library;
 
 #[path = "caller.rs"]
 mod caller;
@@ -8,4 +8,6 @@ mod caller;
 mod interface;
 
 pub use caller::call;
+#[cfg(test)]
+pub use interface::name;
 pub use interface::texts;

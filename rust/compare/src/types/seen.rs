@@ -104,7 +104,7 @@ pub enum Ended {
     Error { name: String, text: String },
 }
 
-/// The fields of a first line.
+/// The fields of a start line.
 #[derive(Debug, Default, PartialEq, Eq)]
 pub struct Line {
     pub method: Option<Place>,

@@ -1,4 +1,4 @@
-//! Inputs that upstream's tests pin, and inputs on which a wrong reader would give itself away.
+//! Inputs that upstream's tests pin, and inputs on which a wrong library would give itself away.
 
 use super::plain;
 use answers::{Call, Query};

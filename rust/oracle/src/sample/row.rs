@@ -18,13 +18,10 @@
 //!
 //! All but INPUT are decimal, without leading zeros. What is not known is 0.
 
-use answers::{Answer, Call, ChunkSize, Fault, Header, Outcome, Piece, Query, Reason, Slots};
-
-const METHOD: u64 = 1;
-const TARGET: u64 = 2;
-const VERSION: u64 = 4;
-const CODE: u64 = 8;
-const REASON: u64 = 16;
+use answers::functions::{
+    number, CODE, COMPLETE, INCOMPLETE, INVALID_CHUNK_SIZE, METHOD, REASON, TARGET, VERSION,
+};
+use answers::{Answer, Call, ChunkSize, Header, Outcome, Piece, Query, Reason, Slots};
 
 /// The row, without a line end.
 pub fn write(query: &Query, answer: &Answer) -> String {
@@ -86,25 +83,20 @@ fn of_head(outcome: Outcome, fields: [u64; 6], slots: &Slots) -> Vec<u64> {
 
 fn of_chunk_size(answer: ChunkSize) -> [u64; 9] {
     let (kind, end, size) = match answer {
-        ChunkSize::Complete { end, size } => (0, end as u64, size),
-        ChunkSize::Incomplete => (1, 0, 0),
-        ChunkSize::Error => (9, 0, 0),
+        ChunkSize::Complete { end, size } => (COMPLETE, end as u64, size),
+        ChunkSize::Incomplete => (INCOMPLETE, 0, 0),
+        ChunkSize::Error => (INVALID_CHUNK_SIZE, 0, 0),
     };
-    [kind, end, size, 0, 0, 0, 0, 0, 0]
+    [u64::from(kind), end, size, 0, 0, 0, 0, 0, 0]
 }
 
 fn kind_and_end(outcome: Outcome) -> (u64, u64) {
-    match outcome {
-        Outcome::Complete(end) => (0, end as u64),
-        Outcome::Incomplete => (1, 0),
-        Outcome::Error(Fault::HeaderName) => (2, 0),
-        Outcome::Error(Fault::HeaderValue) => (3, 0),
-        Outcome::Error(Fault::NewLine) => (4, 0),
-        Outcome::Error(Fault::Status) => (5, 0),
-        Outcome::Error(Fault::Token) => (6, 0),
-        Outcome::Error(Fault::TooManyHeaders) => (7, 0),
-        Outcome::Error(Fault::Version) => (8, 0),
-    }
+    let (kind, end) = match outcome {
+        Outcome::Complete(end) => (COMPLETE, end as u64),
+        Outcome::Incomplete => (INCOMPLETE, 0),
+        Outcome::Error(fault) => (number(fault), 0),
+    };
+    (u64::from(kind), end)
 }
 
 fn request_fields(method: Option<Piece>, target: Option<Piece>, version: Option<u8>) -> [u64; 6] {
@@ -155,6 +147,7 @@ fn of_piece(piece: Piece) -> [u64; 2] {
 #[cfg(test)]
 mod tests {
     use super::*;
+    use answers::Fault;
 
     /// Checks the rows of queries and answers that are given in their text forms.
     fn check(examples: &[(&str, &str, &str)]) {
