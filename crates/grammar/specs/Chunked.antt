@@ -1,4 +1,5 @@
--- The line before a chunk of a body: RFC 9112, section 7.1. Left out are the bytes of a chunk and the trailer section.
+-- The line before a chunk of a body: RFC 9112, section 7.1. A definition with another name than a rule of the RFC is a part of the one whose
+-- section it cites. Left out are the bytes of a chunk and the trailer section.
 -- Assumes nothing.
 use Prim.Native.Nat.{ℕ, _+_, _-_, _*_, _≤_}
 use mathlib.Core.Path.{_≡_}
@@ -18,13 +19,13 @@ semicolon = 0x3B ∷ []
 abbrev pub equals : List ℕ
 equals = 0x3D ∷ []
 
--- what a hexadecimal digit is worth
+-- RFC 5234, B.1: what a hexadecimal digit is worth
 abbrev pub worth : {b : ℕ} → HEXDIG b → ℕ
 worth {b} (bytes.digit h) = b - 0x30
 worth {b} (bytes.capital h) = b - 0x37
 worth {b} (bytes.small h) = b - 0x57
 
--- *HEXDIG, and the number that they write
+-- 7.1: *HEXDIG, and the number that they write
 pub data hexadecimal : List ℕ → ℕ → Type 0 where
   none : hexadecimal [] 0
   more : {w : List ℕ} {n b : ℕ} → hexadecimal w n → (d : HEXDIG b) → hexadecimal (w ++ (b ∷ [])) (n * 16 + worth d)
@@ -49,7 +50,7 @@ pub data chunk-ext : List ℕ → Type 0 where
   name : {a b n x : List ℕ} → BWS a → BWS b → chunk-ext-name n → chunk-ext x → chunk-ext (a ++ semicolon ++ b ++ n ++ x)
   value : {a b n c d v x : List ℕ} → BWS a → BWS b → chunk-ext-name n → BWS c → BWS d → chunk-ext-val v → chunk-ext x → chunk-ext (a ++ semicolon ++ b ++ n ++ c ++ equals ++ d ++ v ++ x)
 
--- what stands between a size and its line's end
+-- 7.1 and 7.1.1: what stands between a size and its line's end
 pub data behind-size (r : Rules) : List ℕ → Type 0 where
   extension : {w : List ℕ} → chunk-ext w → behind-size r w
   blanks : {w : List ℕ} → r .blank-behind-size ≡ true → OWS w → behind-size r w

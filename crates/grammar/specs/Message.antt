@@ -1,5 +1,6 @@
--- The head of a message: RFC 9112, sections 2 to 5, over the rules of a reading. Left out are the body, and obs-fold (5.2), which no
--- reading takes yet.
+-- The head of a message: RFC 9112, sections 2 to 5, over the rules of a reading. A definition with another name than a rule of the RFC is
+-- a part of the one whose section it cites. Left out are the body, with the fields that say how long it is; what a Host field must be; and
+-- what no reading takes yet: obs-fold (5.2), blanks before a colon (5.1), and lines that begin with blanks (2.2).
 -- Assumes nothing.
 use Prim.Native.Nat.{ℕ, _+_, _-_, _*_}
 use mathlib.Core.Path.{_≡_}

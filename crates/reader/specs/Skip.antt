@@ -1,6 +1,6 @@
 -- Where a row of bytes of a class ends, and a machine that such bytes leave in its state.
 -- Assumes nothing.
-use mathlib.Core.Path.{_≡_, sym, _∙_}
+use mathlib.Core.Path.{_≡_, refl, sym, _∙_}
 use mathlib.Core.List.{List}
 use mathlib.Core.Bool.{Bool, true, false, not}
 use Prim.Native.Nat.{ℕ, zero, suc, _+_, _-_, _≤_, _<_}
@@ -16,6 +16,7 @@ use Rattle.reader.specs.Laws.{run-in}
 pub record Passed (class : ℕ → Bool) (xs : List ℕ) (i r : ℕ) : Type 0 where
   pub from : i ≤ r
   pub inside : i ≤ length xs → r ≤ length xs
+  pub past : length xs ≤ i → r ≡ i
   pub all : (k : ℕ) → i ≤ k → k < r → class (getD xs k 0) ≡ true
 
 -- and r is where they end: the input does, or the byte there is not of the class
@@ -25,10 +26,10 @@ pub record Skipped (class : ℕ → Bool) (xs : List ℕ) (i r : ℕ) : Type 0 w
 
 module _ {class : ℕ → Bool} {xs : List ℕ} {i : ℕ} where
   pub passed-none : Passed class xs i i
-  passed-none = record { from = omega arith; inside = λ h. h; all = λ k lo hi. absurd (omega arith) }
+  passed-none = record { from = omega arith; inside = λ h. h; past = λ _. refl; all = λ k lo hi. absurd (omega arith) }
 
   pub passed-more : {r : ℕ} → Passed class xs i r → r < length xs → class (getD xs r 0) ≡ true → Passed class xs i (r + 1)
-  passed-more {r} h l e = record { from = omega (arith, h .from); inside = λ _. omega arith; all = λ k lo hi. go k lo hi (decLt k r) }
+  passed-more {r} h l e = record { from = omega (arith, h .from); inside = λ _. omega arith; past = λ p. absurd (omega (arith, h .from, l, p)); all = λ k lo hi. go k lo hi (decLt k r) }
     where
       go : (k : ℕ) → i ≤ k → k < r + 1 → Dec (k < r) → class (getD xs k 0) ≡ true
       go k lo hi (yes p) = h .all k lo p
@@ -45,8 +46,13 @@ pub passed-part : {class : ℕ → Bool} {xs : List ℕ} {i r : ℕ} (j k : ℕ)
 passed-part {xs = xs} {i = i} {r = r} j k h a b c = record {
   from = b;
   inside = λ l. let u : r ≤ length xs = h .inside (omega arith) in omega arith;
+  past = λ p. behind p (decLt (length xs) i);
   all = λ n lo hi. h .all n (omega arith) (omega arith);
 }
+  where
+    behind : length xs ≤ j → Dec (length xs < i) → k ≡ j
+    behind p (yes q) = let e : r ≡ i = h .past (omega (arith, q)) in omega (arith, a, b, c, e)
+    behind p (no q) = let u : r ≤ length xs = h .inside (omega (arith, q)) in omega (arith, b, c, u, p)
 
 -- what a test `if !is_class(b)` says of the class
 pub told-true : {t c : Bool} → t ≡ c → not t ≡ false → c ≡ true

@@ -1,4 +1,5 @@
--- Where a reading departs from the RFCs' grammar, one field each. Its name is that of its entry in docs/DIFFERENCES.md.
+-- Where a reading departs from the RFCs' grammar, or for any-code from the codes of RFC 9110, section 15, one field each. Its name is that of
+-- its entry in docs/DIFFERENCES.md.
 -- Assumes nothing.
 use mathlib.Core.Bool.{Bool, true, false}
 
@@ -26,7 +27,8 @@ pub record Rules : Type 0 where
   -- a chunk size has at most sixteen digits
   pub sixteen-digits : Bool
 
--- the RFCs' rules; of a target no more is asked than that it is visible
+-- the RFCs' grammar alone, without what the prose of RFC 9112, section 2.2, lets a recipient do besides (lf-alone, empty-lines); of a target
+-- no more is asked than that it is visible, and a code has one of its classes
 abbrev pub strict : Rules
 strict = record {
   lf-alone = false;

@@ -42,7 +42,7 @@ both b = isValue b && isAscii b
 module _ (xs : List ℕ) (a : ℕ) where
   plain-passed : {i j : ℕ} → i ≤ length xs → Passed isValue xs i j → Passed isAscii xs i j → runAt reasonStep (inside a false) xs i ≡ runAt reasonStep (inside a false) xs j
   unfolding both
-  plain-passed l v c = skip reasonStep both (inside a false) (λ q b e. let w = both-true (isValue b) (isAscii b) e in rw (w .0, w .1)) xs l (record { from = v .from; inside = v .inside; all = λ k lo hi. rw (v .all k lo hi, c .all k lo hi) })
+  plain-passed l v c = skip reasonStep both (inside a false) (λ q b e. let w = both-true (isValue b) (isAscii b) e in rw (w .0, w .1)) xs l (record { from = v .from; inside = v .inside; past = v .past; all = λ k lo hi. rw (v .all k lo hi, c .all k lo hi) })
 
   obs-passed : {i j : ℕ} → i ≤ length xs → Passed isValue xs i j → runAt reasonStep (inside a true) xs i ≡ runAt reasonStep (inside a true) xs j
   obs-passed l v = skip reasonStep isValue (inside a true) (λ q b e. rw e) xs l v
@@ -63,6 +63,7 @@ module _ (xs : List ℕ) (r : ℕ) {at q : ℕ} (k : Skipped isAscii (take r xs)
   part-passed = record {
     from = k .passed .from;
     inside = λ h. omega (arith, within, l);
+    past = λ p. absurd (omega (arith, p, a, l));
     all = λ j lo hi. ap isAscii (sym (getD-take r xs j 0 (omega (arith, hi, within)))) ∙ k .passed .all j lo hi;
   }
 

@@ -1,4 +1,4 @@
--- The syntax of UTF-8 byte strings, from RFC 3629, section 4: one constructor for each row of its table.
+-- The syntax of UTF-8 byte strings, from RFC 3629, section 4: one constructor for each of its alternatives.
 -- Assumes nothing.
 use Prim.Native.Nat.{ℕ}
 use mathlib.Core.List.{List, [], _∷_, _++_}

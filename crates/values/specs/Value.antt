@@ -94,7 +94,7 @@ module _ (xs : List ℕ) (at : ℕ) {a r : ℕ} (b : Skipped isBlank xs at a) (v
         start = omega (arith, b .passed .from, v .passed .from)
 
         rest : Passed isBlank xs t r
-        rest = record { from = c .cut .high; inside = λ _. omega arith; all = c .cut .blank }
+        rest = record { from = c .cut .high; inside = λ _. omega arith; past = λ p. omega (arith, p, c .cut .high, l); all = c .cut .blank }
 
         go : Dec (a < r) → got (piece a t) r ≡ value xs at
         go (yes h) =
