@@ -15,7 +15,7 @@ use Rattle.octets.specs.Class.{isToken}
 use Rattle.octets.specs.Outside.{space-no-token}
 use Rattle.rules.specs.Rules.{Rules, default}
 use Rattle.grammar.specs.Rows.{Many, none}
-use Rattle.grammar.specs.Message.{method, request-target, plain-text}
+use Rattle.grammar.specs.Message.{method, request-target, ascii-text}
 use Rattle.parts.specs.declared.Error.{Error}
 use Rattle.parts.specs.declared.Error.the-variants.{NewLine, Status, Token, Version}
 use Rattle.parts.specs.declared.Piece.{Piece}
@@ -34,10 +34,10 @@ use Rattle.statusline.specs.declared.StatusLine.{StatusLine}
 use Rattle.statusline.specs.StatusLine as statuses
 use Rattle.leaves.specs.Word.{Worded, exact-word}
 use Rattle.leaves.specs.Target.{Targeted, exact-target}
-use Rattle.leaves.specs.Reason.{Reasoned, plain, obsolete, exact-reason}
+use Rattle.leaves.specs.Reason.{Reasoned, in-ascii, obsolete, exact-reason}
 use Rattle.agreement.specs.Places.{held, at-drop, at-as, at-first, held-at}
 use Rattle.agreement.specs.Rows.{many-as, tokens}
-use Rattle.agreement.specs.Starts.{default-fixed, target-derived, plain-is}
+use Rattle.agreement.specs.Starts.{default-fixed, target-derived, ascii-is}
 use Rattle.agreement.specs.Known.{RequestInside, StatusInside}
 
 -- a piece that an exact machine gives lies in the input and holds such bytes, where its relation says that it does so in what was read
@@ -58,8 +58,8 @@ word-such p w a rest K = (K .v, 32 ∷ [], K .whole, K .place, tokens (K .kind),
 target-such : (p : ℕ) (w : List ℕ) (a : Piece) (rest : List ℕ) → Targeted p w a rest → (v u : List ℕ) × (w ≡ v ++ u) × (a ≡ piece p (p + length v)) × request-target default v × (1 ≤ length w + length rest)
 target-such p w a rest K = (K .v, 32 ∷ [], K .line, K .place, target-derived default-fixed (K .kind) (K .text), omega (arith, ap length (K .line) ∙ length-append (K .v) (32 ∷ [])))
 
-reason-such : (p : ℕ) (w : List ℕ) (a : Piece) (rest : List ℕ) → Reasoned p w a rest → (v u : List ℕ) × (w ≡ v ++ u) × (a ≡ piece p (p + length v)) × Many plain-text v × (1 ≤ length w + length rest)
-reason-such p w a rest (plain k s) = (w, [], sym (append-nil w), refl, many-as (λ b. plain-is) k, omega (arith, ap length (s .whole)))
+reason-such : (p : ℕ) (w : List ℕ) (a : Piece) (rest : List ℕ) → Reasoned p w a rest → (v u : List ℕ) × (w ≡ v ++ u) × (a ≡ piece p (p + length v)) × Many ascii-text v × (1 ≤ length w + length rest)
+reason-such p w a rest (in-ascii k s) = (w, [], sym (append-nil w), refl, many-as (λ b. ascii-is) k, omega (arith, ap length (s .whole)))
 reason-such p w a rest (obsolete k o l s) = let n : 0 ≡ p + 0 - p = omega arith in ([], w, refl, ap (λ y. record { offset = p; length = y }) n, none, omega (arith, ap length (s .whole)))
 
 module _ (r : Rules) (z : List ℕ) where
@@ -101,7 +101,7 @@ module _ (r : Rules) (z : List ℕ) where
   reason-in : (k : StatusLine) (q : ℕ) → Lies k → Lies (knownOf (statuses.fromReason r z k q))
   reason-in k q h =
       last-holds Lies k (statuses.withReason k) h (statuses.reasonEnd r z q)
-      (λ w i e. let g = reason-got (reason z q) (λ w i. lineEnd r Status z i) w i e in record { reason = piece-in exact-reason (Many plain-text) reason-such z q w (g .0) (g .1) })
+      (λ w i e. let g = reason-got (reason z q) (λ w i. lineEnd r Status z i) w i e in record { reason = piece-in exact-reason (Many ascii-text) reason-such z q w (g .0) (g .1) })
 
   behind-in : (k : StatusLine) (q : ℕ) → Lies k → Lies (knownOf (statuses.fromBehind r z k q))
   behind-in k q h = chain-holds Lies k (λ _. k) h (statuses.fromReason r z) (behindCode r z q) (λ x i e. reason-in k i h)

@@ -48,7 +48,7 @@ pub record RequestInside (z : List ℕ) (k : RequestLine) : Type 0 where
 
 -- no obs-text is ever given in a reason
 pub record StatusInside (z : List ℕ) (k : StatusLine) : Type 0 where
-  pub reason : Inside (Many grammar.plain-text) z (k .reason)
+  pub reason : Inside (Many grammar.ascii-text) z (k .reason)
 
 -- names are names and values are values
 abbrev pub AreFields : List Field → Type 0

@@ -64,7 +64,7 @@ tokens (some {b = b} x k) = more (no-cr-token b x) (many-as no-cr-token k)
 
 quotes : {w : List ℕ} → quoted w → Many NoCR w
 quotes fields.quoted.none = none
-quotes (fields.quoted.plain {b = b} x k) = more (no-cr-quoted b x) (quotes k)
+quotes (fields.quoted.unescaped {b = b} x k) = more (no-cr-quoted b x) (quotes k)
 quotes (fields.quoted.escaped (fields.quoted-pair.pair {b = b} x) k) = more (literal 0x5C refl) (more (no-cr-text b x) (quotes k))
 
 values : {w : List ℕ} → chunk-ext-val w → Many NoCR w

@@ -17,14 +17,14 @@ use Rattle.utf8.specs.Reader.{utf8}
 use Rattle.utf8.specs.Exact.{utf8-exact}
 use Rattle.rules.specs.Rules.{Rules, default}
 use Rattle.grammar.specs.Rows.{Many, none, more, Some, some}
-use Rattle.grammar.specs.Message.{Version, HTTP-version, one-zero, one-one, request-target, status-code, plain-text, reason-phrase}
+use Rattle.grammar.specs.Message.{Version, HTTP-version, one-zero, one-one, request-target, status-code, ascii-text, reason-phrase}
 use Rattle.grammar.specs.Message as grammar
 use Rattle.versions.specs.Version.{name}
 use Rattle.status.specs.Code.{onto}
 use Rattle.leaves.specs.Rows.{In}
 use Rattle.leaves.specs.Version.{Digit, zero-digit, one-digit}
 use Rattle.leaves.specs.Status.{Coded, digits}
-use Rattle.leaves.specs.Reason.{Plain, Obsolete}
+use Rattle.leaves.specs.Reason.{Ascii, Obsolete}
 use Rattle.agreement.specs.Rows.{many-as, some-as, many-append, targets, in-target, texts, in-value}
 
 -- where the reader has no choice, it reads as httparse does
@@ -77,16 +77,16 @@ module _ {r : Rules} (fixed : Fixed r) where
   code-read (grammar.status-code.any h x y z) = three x y z
 
 -- a text byte is ASCII or obs-text
-pub plain-is : {b : ℕ} → Plain b → plain-text b
+pub ascii-is : {b : ℕ} → Ascii b → ascii-text b
 unfolding isAscii
-plain-is {b} h = by (value-is-text b .0 (h .value))
+ascii-is {b} h = by (value-is-text b .0 (h .value))
   where
     low : Range 0x00 0x7F b
     low = in-range 0x00 0x7F b (h .ascii)
 
-    by : text b → plain-text b
-    by (bytes.text.white k) = grammar.plain-text.white k
-    by (bytes.text.field (bytes.visible k)) = grammar.plain-text.visible k
+    by : text b → ascii-text b
+    by (bytes.text.white k) = grammar.ascii-text.white k
+    by (bytes.text.field (bytes.visible k)) = grammar.ascii-text.visible k
     by (bytes.text.field (bytes.obsolete k)) = absurd (omega (arith, k .low, low .high))
 
 ascii-blank : {b : ℕ} → blank b → isAscii b ≡ true
@@ -98,9 +98,9 @@ ascii-visible : {b : ℕ} → VCHAR b → isAscii b ≡ true
 unfolding isAscii
 ascii-visible {b} h = range-in 0x00 0x7F b (record { low = omega arith; high = omega (arith, h .high) })
 
-is-plain : {b : ℕ} → plain-text b → Plain b
-is-plain {b} (grammar.plain-text.white k) = record { value = value-is-text b .1 (bytes.text.white k); ascii = ascii-blank k }
-is-plain {b} (grammar.plain-text.visible k) = record { value = value-is-text b .1 (bytes.text.field (bytes.visible k)); ascii = ascii-visible k }
+is-ascii : {b : ℕ} → ascii-text b → Ascii b
+is-ascii {b} (grammar.ascii-text.white k) = record { value = value-is-text b .1 (bytes.text.white k); ascii = ascii-blank k }
+is-ascii {b} (grammar.ascii-text.visible k) = record { value = value-is-text b .1 (bytes.text.field (bytes.visible k)); ascii = ascii-visible k }
 
 obsolete-is : {b : ℕ} → Obsolete b → obs-text b
 obsolete-is {b} h = by (value-is-text b .0 (h .value))
@@ -114,14 +114,14 @@ is-obsolete : {b : ℕ} → obs-text b → Obsolete b
 unfolding isAscii
 is-obsolete {b} h = record { value = value-is-text b .1 (bytes.text.field (bytes.obsolete h)); not-ascii = above-range 0x00 0x7F b (omega (arith, h .low)) }
 
-plain-value : {w : List ℕ} → Many Plain w → Many text w
-plain-value = many-as (λ b h. value-is-text b .0 (h .value))
+ascii-value : {w : List ℕ} → Many Ascii w → Many text w
+ascii-value = many-as (λ b h. value-is-text b .0 (h .value))
 
-pub reason-plain : {r : Rules} {b : ℕ} {w : List ℕ} → Many Plain (b ∷ w) → reason-phrase r (b ∷ w) (b ∷ w)
-reason-plain (more x k) = grammar.reason-phrase.plain (some (plain-is x) (many-as (λ b. plain-is) k))
+pub reason-ascii : {r : Rules} {b : ℕ} {w : List ℕ} → Many Ascii (b ∷ w) → reason-phrase r (b ∷ w) (b ∷ w)
+reason-ascii (more x k) = grammar.reason-phrase.ascii (some (ascii-is x) (many-as (λ b. ascii-is) k))
 
-pub reason-obsolete : {r : Rules} {u v : List ℕ} {c : ℕ} → Fixed r → Many Plain u → Obsolete c → Many (In isValue) v → reason-phrase r (u ++ (c ∷ v)) []
-reason-obsolete fixed k o l = grammar.reason-phrase.emptied (fixed .obs-reason) (plain-value k) (obsolete-is o) (texts l)
+pub reason-obsolete : {r : Rules} {u v : List ℕ} {c : ℕ} → Fixed r → Many Ascii u → Obsolete c → Many (In isValue) v → reason-phrase r (u ++ (c ∷ v)) []
+reason-obsolete fixed k o l = grammar.reason-phrase.emptied (fixed .obs-reason) (ascii-value k) (obsolete-is o) (texts l)
 
 -- the first byte that is not ASCII
 pub record First (w : List ℕ) : Type 0 where
@@ -129,22 +129,22 @@ pub record First (w : List ℕ) : Type 0 where
   pub c : ℕ
   pub v : List ℕ
   pub whole : w ≡ u ++ (c ∷ v)
-  pub before : Many Plain u
+  pub before : Many Ascii u
   pub here : Obsolete c
   pub behind : Many (In isValue) v
 
-text-is : {b : ℕ} → text b → Plain b ⊎ Obsolete b
-text-is (bytes.text.white k) = inl (is-plain (grammar.plain-text.white k))
-text-is (bytes.text.field (bytes.visible k)) = inl (is-plain (grammar.plain-text.visible k))
+text-is : {b : ℕ} → text b → Ascii b ⊎ Obsolete b
+text-is (bytes.text.white k) = inl (is-ascii (grammar.ascii-text.white k))
+text-is (bytes.text.field (bytes.visible k)) = inl (is-ascii (grammar.ascii-text.visible k))
 text-is (bytes.text.field (bytes.obsolete k)) = inr (is-obsolete k)
 
 pub first-obsolete : {u v : List ℕ} {c : ℕ} → Many text u → obs-text c → Many text v → First (u ++ (c ∷ v))
 first-obsolete {v = v} {c = c} none o l = record { u = []; c = c; v = v; whole = refl; before = none; here = is-obsolete o; behind = in-value l }
 first-obsolete {v = v} {c = c} (more {b = b} {w = u} x k) o l = by (first-obsolete k o l) (text-is x)
   where
-    by : First (u ++ (c ∷ v)) → Plain b ⊎ Obsolete b → First (b ∷ (u ++ (c ∷ v)))
+    by : First (u ++ (c ∷ v)) → Ascii b ⊎ Obsolete b → First (b ∷ (u ++ (c ∷ v)))
     by rest (inl p) = record { u = b ∷ rest .u; c = rest .c; v = rest .v; whole = ap (λ y. b ∷ y) (rest .whole); before = more p (rest .before); here = rest .here; behind = rest .behind }
     by rest (inr p) = record { u = []; c = b; v = u ++ (c ∷ v); whole = refl; before = none; here = p; behind = in-value (many-append k (more (bytes.text.field (bytes.obsolete o)) l)) }
 
-pub plain-read : {w : List ℕ} → Some plain-text w → Many Plain w
-plain-read k = many-as (λ b. is-plain) (some-many k)
+pub ascii-read : {w : List ℕ} → Some ascii-text w → Many Ascii w
+ascii-read k = many-as (λ b. is-ascii) (some-many k)

@@ -17,10 +17,10 @@ use Rattle.parts.specs.Answers.{piece}
 use Rattle.status.specs.Reason.{empty}
 use Rattle.leaves.specs.BehindCode.{Behind}
 use Rattle.leaves.specs.BehindCode as behind
-use Rattle.leaves.specs.Reason.{Reasoned, plain, obsolete}
+use Rattle.leaves.specs.Reason.{Reasoned, in-ascii, obsolete}
 use Rattle.agreement.specs.Places.{held, At, at-first, at-second, held-at}
 use Rattle.agreement.specs.FieldLine.{end-stops}
-use Rattle.agreement.specs.Starts.{Fixed, reason-plain, reason-obsolete, first-obsolete, plain-read}
+use Rattle.agreement.specs.Starts.{Fixed, reason-ascii, reason-obsolete, first-obsolete, ascii-read}
 
 -- the bytes behind a code up to the line's end, and the reason
 pub data Tail (r : Rules) : List ℕ → List ℕ → Type 0 where
@@ -50,22 +50,22 @@ line-parts (grammar.status-line.code-ends {v = v} {c = c} x h i) = record { v = 
 
 -- a line's end is no reason's first byte
 ends-at-once : {p : ℕ} {u : List ℕ} {a : Piece} {x : List ℕ} (b : ℕ) → isValue b ≡ false → Reasoned p u a x → (ys rest : List ℕ) → b ∷ ys ≡ u ++ rest → u ≡ []
-ends-at-once b f (plain none s) ys rest e = refl
-ends-at-once b f (plain (more {b = c} x k) s) ys rest e = let same : c ≡ b = cc in absurd (differs isValue f (x .value) same)
+ends-at-once b f (in-ascii none s) ys rest e = refl
+ends-at-once b f (in-ascii (more {b = c} x k) s) ys rest e = let same : c ≡ b = cc in absurd (differs isValue f (x .value) same)
 ends-at-once b f (obsolete {c = c} none o l s) ys rest e = let same : c ≡ b = cc in absurd (differs isValue f (o .value) same)
 ends-at-once b f (obsolete (more {b = c} x k) o l s) ys rest e = let same : c ≡ b = cc in absurd (differs isValue f (x .value) same)
 
 module _ {r : Rules} (fixed : Fixed r) {z : List ℕ} where
   -- behind a space
   spaced : {p : ℕ} {u rest : List ℕ} {a : Piece} → At z p u rest → Reasoned p u a rest → Tail r (space ++ u) (held z a)
-  spaced {p} h (plain none s) = subst (Tail r space) (sym (held-at h)) nothing
-  spaced h (plain (more {b = b} {w = w} x k) s) = subst (λ y. Tail r (space ++ (b ∷ w)) y) (sym (held-at h)) (reason (reason-plain (more x k)))
+  spaced {p} h (in-ascii none s) = subst (Tail r space) (sym (held-at h)) nothing
+  spaced h (in-ascii (more {b = b} {w = w} x k) s) = subst (λ y. Tail r (space ++ (b ∷ w)) y) (sym (held-at h)) (reason (reason-ascii (more x k)))
   spaced h (obsolete k o l s) = reason (reason-obsolete fixed k o l)
 
   -- where nothing stands behind the code
   cut : {p : ℕ} {u rest : List ℕ} {a : Piece} → r .code-ends-line ≡ true → At z p u rest → Reasoned p u a rest → u ≡ [] → Tail r u (held z a)
-  cut x h (plain none s) e = subst (Tail r []) (sym (held-at h)) (short x)
-  cut x h (plain (more y k) s) e = never cc
+  cut x h (in-ascii none s) e = subst (Tail r []) (sym (held-at h)) (short x)
+  cut x h (in-ascii (more y k) s) e = never cc
   cut x h (obsolete none o l s) e = never cc
   cut x h (obsolete (more y k) o l s) e = never cc
 
@@ -91,13 +91,13 @@ pub record Tail-read (r : Rules) (z : List ℕ) (q : ℕ) (w g c rest : List ℕ
 
 module _ {r : Rules} (fixed : Fixed r) {z : List ℕ} where
   pub tail-read : {q : ℕ} {w g c rest : List ℕ} → Tail r w g → line-end r c → At z q (w ++ c) rest → Tail-read r z q w g c rest
-  tail-read {q} {c = c} {rest = rest} (reason (grammar.reason-phrase.plain {w = u} k)) e h =
-      record { v = space; u = u; a = piece (q + 1) (q + 1 + length u); whole = refl; first = behind.space; second = plain (plain-read k) (end-stops e rest); holds = held-at (at-first u c (at-second space (u ++ c) h)) }
+  tail-read {q} {c = c} {rest = rest} (reason (grammar.reason-phrase.ascii {w = u} k)) e h =
+      record { v = space; u = u; a = piece (q + 1) (q + 1 + length u); whole = refl; first = behind.space; second = in-ascii (ascii-read k) (end-stops e rest); holds = held-at (at-first u c (at-second space (u ++ c) h)) }
   tail-read (reason (grammar.reason-phrase.whole x k)) e h = absurd (clash (fixed .obs-reason) x)
   tail-read {q} {c = c} {rest = rest} (reason (grammar.reason-phrase.emptied {u = u} {v = v} {c = b} x k o l)) e h =
       let F = first-obsolete k o l in
       record { v = space; u = u ++ (b ∷ v); a = empty (q + 1); whole = refl; first = behind.space; second = subst (λ y. Reasoned (q + 1) y (empty (q + 1)) (c ++ rest)) (sym (F .whole)) (obsolete (F .before) (F .here) (F .behind) (end-stops e rest)); holds = refl }
   tail-read {q} {c = c} {rest = rest} nothing e h =
-      record { v = space; u = []; a = piece (q + 1) (q + 1 + 0); whole = refl; first = behind.space; second = plain none (end-stops e rest); holds = held-at (at-first [] c (at-second space c h)) }
+      record { v = space; u = []; a = piece (q + 1) (q + 1 + 0); whole = refl; first = behind.space; second = in-ascii none (end-stops e rest); holds = held-at (at-first [] c (at-second space c h)) }
   tail-read {q} {c = c} {rest = rest} (short x) e h =
-      record { v = []; u = []; a = piece (q + 0) (q + 0 + 0); whole = refl; first = code-ended x e rest; second = plain none (end-stops e rest); holds = held-at (at-first [] c (at-second [] c h)) }
+      record { v = []; u = []; a = piece (q + 0) (q + 0 + 0); whole = refl; first = code-ended x e rest; second = in-ascii none (end-stops e rest); holds = held-at (at-first [] c (at-second [] c h)) }

@@ -34,7 +34,7 @@ pub data quoted-pair : List ℕ → Type 0 where
 -- 5.6.4: *( qdtext / quoted-pair )
 pub data quoted : List ℕ → Type 0 where
   none : quoted []
-  plain : {b : ℕ} {w : List ℕ} → qdtext b → quoted w → quoted (b ∷ w)
+  unescaped : {b : ℕ} {w : List ℕ} → qdtext b → quoted w → quoted (b ∷ w)
   escaped : {p w : List ℕ} → quoted-pair p → quoted w → quoted (p ++ w)
 
 -- 5.6.4: DQUOTE *( qdtext / quoted-pair ) DQUOTE

@@ -71,13 +71,13 @@ pub data status-code (r : Rules) : List ℕ → ℕ → Type 0 where
   any : {a b c : ℕ} → r .any-code ≡ true → DIGIT a → DIGIT b → DIGIT c → status-code r (a ∷ b ∷ c ∷ []) ((a - 0x30) * 100 + (b - 0x30) * 10 + (c - 0x30))
 
 -- 4: HTAB / SP / VCHAR, which is text but for obs-text
-pub data plain-text (b : ℕ) : Type 0 where
-  white : blank b → plain-text b
-  visible : VCHAR b → plain-text b
+pub data ascii-text (b : ℕ) : Type 0 where
+  white : blank b → ascii-text b
+  visible : VCHAR b → ascii-text b
 
 -- 4: reason-phrase = 1*( HTAB / SP / VCHAR / obs-text ), and the reason that is given
 pub data reason-phrase (r : Rules) : List ℕ → List ℕ → Type 0 where
-  plain : {w : List ℕ} → Some plain-text w → reason-phrase r w w
+  ascii : {w : List ℕ} → Some ascii-text w → reason-phrase r w w
   whole : {w : List ℕ} → r .obs-reason ≡ false → Some text w → reason-phrase r w w
   emptied : {u v : List ℕ} {c : ℕ} → r .obs-reason ≡ true → Many text u → obs-text c → Many text v → reason-phrase r (u ++ (c ∷ v)) []
 
@@ -105,7 +105,7 @@ pub data header-block (r : Rules) : List ℕ → List Field → Type 0 where
 pub data head (r : Rules) {L : Type 0} (start-line : List ℕ → L → Type 0) : List ℕ → L → List Field → Type 0 where
   message : {e w c b : List ℕ} {l : L} {fs : List Field} → empty-lines r e → start-line w l → line-end r c → header-block r b fs → head r start-line (e ++ w ++ c ++ b) l fs
 
--- 2.1: the head of a request, what its first line says, and its fields
+-- 2.1: the head of a request, what its start line says, and its fields
 abbrev pub request-head : Rules → List ℕ → RequestLine → List Field → Type 0
 request-head r = head r (request-line r)
 

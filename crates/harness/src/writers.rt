@@ -8,24 +8,24 @@ use requestline::RequestLine;
 use startline::KnownNumber;
 use startline::KnownPiece;
 use statusline::StatusLine;
-use writer::Plain;
+use writer::Writing;
 
 // 0 for written and 1 for too little room, with the number of bytes; 2 for what cannot be written, 3 for what is too long.
-fn told(answer: Plain, size: &mut [usize; 1]) -> u32 {
+fn told(answer: Writing, size: &mut [usize; 1]) -> u32 {
     match answer {
-        Plain::Written(n) => {
+        Writing::Written(n) => {
             size[0] = n;
             0
         }
-        Plain::Needs(n) => {
+        Writing::Needs(n) => {
             size[0] = n;
             1
         }
-        Plain::Unwritable => {
+        Writing::Unwritable => {
             size[0] = 0;
             2
         }
-        Plain::TooLong => {
+        Writing::TooLong => {
             size[0] = 0;
             3
         }

@@ -10,7 +10,7 @@ use libc::STDOUT_FILENO;
 use page::place::part;
 use page::text::Page;
 use wording::Kind;
-use writer::Plain;
+use writer::Writing;
 
 fn main() {
     let call = arguments::asked();
@@ -59,13 +59,13 @@ fn show(kind: Kind, mode: Mode, s: &[u8]) {
 fn show_plain(page: &mut Page, kind: Kind, s: &[u8]) {
     let plain = restate::restate(page, kind, s);
     match plain {
-        Plain::Written(n) => write(STDOUT_FILENO, page, n),
-        Plain::Unwritable => {
+        Writing::Written(n) => write(STDOUT_FILENO, page, n),
+        Writing::Unwritable => {
             let n = report::report(page, kind, false, s);
             write(STDERR_FILENO, page, n);
         }
-        Plain::Needs(_) => refuse_size(),
-        Plain::TooLong => refuse_size(),
+        Writing::Needs(_) => refuse_size(),
+        Writing::TooLong => refuse_size(),
     }
 }
 

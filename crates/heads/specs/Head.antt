@@ -12,7 +12,7 @@ use Rattle.reader.specs.Branch.{fresh}
 use Rattle.parts.specs.declared.Error.{Error}
 use Rattle.parts.specs.declared.Passed.{Passed}
 use Rattle.parts.specs.declared.Passed.the-variants as passes
-use Rattle.rules.specs.Rules.{Rules, default}
+use Rattle.rules.specs.Rules.{Rules}
 use Rattle.startline.specs.Answers.{tell}
 use Rattle.fields.specs.declared.Header.{Header}
 use Rattle.blocks.specs.declared.Block.{Block}

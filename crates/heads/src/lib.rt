@@ -11,7 +11,7 @@ use parts::Passed;
 use requestline::RequestLine;
 use statusline::StatusLine;
 
-// What reading a request comes to, what is known of its first line, and how many headers are in the slots.
+// What reading a request comes to, what is known of its start line, and how many headers are in the slots.
 pub struct RequestHead {
     pub end: Passed,
     pub line: RequestLine,

@@ -13,7 +13,7 @@ use Rattle.octets.specs.Ties.{in-range, target-is-field-vchar}
 use Rattle.rules.specs.Rules.{Rules}
 use Rattle.grammar.specs.Rows.{Many, none, more, Some, some}
 use Rattle.grammar.specs.Fields.{token, field-value, Field}
-use Rattle.grammar.specs.Message.{space, colon, CRLF, crlf, request-target, status-code, plain-text, header-block, request-head, response-head}
+use Rattle.grammar.specs.Message.{space, colon, CRLF, crlf, request-target, status-code, ascii-text, header-block, request-head, response-head}
 use Rattle.grammar.specs.Message as grammar
 use Rattle.leaves.specs.Rows.{In}
 use Rattle.leaves.specs.Value.{Solid, Core, one, two}
@@ -88,16 +88,16 @@ pub a-target : {r : Rules} (w : String) → some-all (within 0x21 0x7E) (ascii w
 a-target w h = grammar.request-target.visible (some-as (λ b. in-range 0x21 0x7E b) (some-row (within 0x21 0x7E) (ascii w) h))
 
 -- a visible character or a space
-abbrev pub plain : ℕ → Bool
-plain b = within 0x20 0x20 b || within 0x21 0x7E b
+abbrev pub printable : ℕ → Bool
+printable b = within 0x20 0x20 b || within 0x21 0x7E b
 
-plain-is : (b : ℕ) (s t : Bool) → within 0x20 0x20 b ≡ s → within 0x21 0x7E b ≡ t → (s || t) ≡ true → plain-text b
-plain-is b true t h k e = let r = in-range 0x20 0x20 b h in grammar.plain-text.white (bytes.blank.space (omega (arith, r .low, r .high)))
-plain-is b false true h k e = grammar.plain-text.visible (in-range 0x21 0x7E b k)
-plain-is b false false h k e = absurd (false≢true e)
+printable-is : (b : ℕ) (s t : Bool) → within 0x20 0x20 b ≡ s → within 0x21 0x7E b ≡ t → (s || t) ≡ true → ascii-text b
+printable-is b true t h k e = let r = in-range 0x20 0x20 b h in grammar.ascii-text.white (bytes.blank.space (omega (arith, r .low, r .high)))
+printable-is b false true h k e = grammar.ascii-text.visible (in-range 0x21 0x7E b k)
+printable-is b false false h k e = absurd (false≢true e)
 
-pub a-reason : {r : Rules} (w : String) → some-all plain (ascii w) ≡ true → grammar.reason-phrase r (ascii w) (ascii w)
-a-reason w h = grammar.reason-phrase.plain (some-as (λ b. plain-is b (within 0x20 0x20 b) (within 0x21 0x7E b) refl refl) (some-row plain (ascii w) h))
+pub a-reason : {r : Rules} (w : String) → some-all printable (ascii w) ≡ true → grammar.reason-phrase r (ascii w) (ascii w)
+a-reason w h = grammar.reason-phrase.ascii (some-as (λ b. printable-is b (within 0x20 0x20 b) (within 0x21 0x7E b) refl refl) (some-row printable (ascii w) h))
 
 -- the lines of a head
 pub the-end : {r : Rules} → header-block r CRLF []
@@ -119,5 +119,5 @@ a-code x y z h =
     let l = both-true (within 0x31 0x35 (0x30 + x)) (within 0x30 0x39 (0x30 + y)) (k .0) in
     grammar.status-code.class (in-range 0x31 0x35 (0x30 + x) (l .0)) (in-range 0x30 0x39 (0x30 + y) (l .1)) (in-range 0x30 0x39 (0x30 + z) (k .1))
 
-pub a-response : {r : Rules} (x y z : ℕ) (w : String) → digits x y z ≡ true → some-all plain (ascii w) ≡ true → {b : List ℕ} {fs : List Field} → header-block r b fs → response-head r (ascii "HTTP/1.1" ++ space ++ ((0x30 + x) ∷ (0x30 + y) ∷ (0x30 + z) ∷ []) ++ space ++ ascii w ++ CRLF ++ b) (record { version = record { major = 1; minor = 1 }; code = (0x30 + x - 0x30) * 100 + (0x30 + y - 0x30) * 10 + (0x30 + z - 0x30); reason = ascii w }) fs
+pub a-response : {r : Rules} (x y z : ℕ) (w : String) → digits x y z ≡ true → some-all printable (ascii w) ≡ true → {b : List ℕ} {fs : List Field} → header-block r b fs → response-head r (ascii "HTTP/1.1" ++ space ++ ((0x30 + x) ∷ (0x30 + y) ∷ (0x30 + z) ∷ []) ++ space ++ ascii w ++ CRLF ++ b) (record { version = record { major = 1; minor = 1 }; code = (0x30 + x - 0x30) * 100 + (0x30 + y - 0x30) * 10 + (0x30 + z - 0x30); reason = ascii w }) fs
 a-response x y z w h k b = grammar.head.message grammar.empty-lines.none (grammar.status-line.reason grammar.one-one (a-code x y z h) (a-reason w k)) crlf b

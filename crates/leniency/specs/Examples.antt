@@ -35,9 +35,9 @@ unfolding isToken isTarget isValue isBlank isDigit within among
 hello = a-request "GET" "/hello.txt" refl refl (a-field "User-Agent" "curl/7.64.1" refl refl (a-field "Host" "www.example.com" refl refl (a-field "Accept-Language" "en, mi" refl refl the-end)))
 
 -- RFC 9110, 3.9: the response
-pub hello-answer : response-head strict (ascii "HTTP/1.1 200 OK\r\nDate: Mon, 27 Jul 2009 12:28:53 GMT\r\nServer: Apache\r\nLast-Modified: Wed, 22 Jul 2009 19:15:56 GMT\r\nETag: \"34aa387-d-1568eb00\"\r\nAccept-Ranges: bytes\r\nContent-Length: 51\r\nVary: Accept-Encoding\r\nContent-Type: text/plain\r\n\r\n") (answers 200 "OK") (field "Date" "Mon, 27 Jul 2009 12:28:53 GMT" ∷ field "Server" "Apache" ∷ field "Last-Modified" "Wed, 22 Jul 2009 19:15:56 GMT" ∷ field "ETag" "\"34aa387-d-1568eb00\"" ∷ field "Accept-Ranges" "bytes" ∷ field "Content-Length" "51" ∷ field "Vary" "Accept-Encoding" ∷ field "Content-Type" "text/plain" ∷ [])
+pub hello-answer : response-head strict (ascii "HTTP/1.1 200 OK\r\nDate: Mon, 27 Jul 2009 12:28:53 GMT\r\nServer: Apache\r\nLast-Modified: Wed, 22 Jul 2009 19:15:56 GMT\r\nETag: \"34aa387-d-1568eb00\"\r\nAccept-Ranges: bytes\r\nContent-Length: 51\r\nVary: Accept-Encoding\r\nContent-Type: text/printable\r\n\r\n") (answers 200 "OK") (field "Date" "Mon, 27 Jul 2009 12:28:53 GMT" ∷ field "Server" "Apache" ∷ field "Last-Modified" "Wed, 22 Jul 2009 19:15:56 GMT" ∷ field "ETag" "\"34aa387-d-1568eb00\"" ∷ field "Accept-Ranges" "bytes" ∷ field "Content-Length" "51" ∷ field "Vary" "Accept-Encoding" ∷ field "Content-Type" "text/printable" ∷ [])
 unfolding isToken isTarget isValue isBlank isDigit within among
-hello-answer = a-response 2 0 0 "OK" refl refl (a-field "Date" "Mon, 27 Jul 2009 12:28:53 GMT" refl refl (a-field "Server" "Apache" refl refl (a-field "Last-Modified" "Wed, 22 Jul 2009 19:15:56 GMT" refl refl (a-field "ETag" "\"34aa387-d-1568eb00\"" refl refl (a-field "Accept-Ranges" "bytes" refl refl (a-field "Content-Length" "51" refl refl (a-field "Vary" "Accept-Encoding" refl refl (a-field "Content-Type" "text/plain" refl refl the-end))))))))
+hello-answer = a-response 2 0 0 "OK" refl refl (a-field "Date" "Mon, 27 Jul 2009 12:28:53 GMT" refl refl (a-field "Server" "Apache" refl refl (a-field "Last-Modified" "Wed, 22 Jul 2009 19:15:56 GMT" refl refl (a-field "ETag" "\"34aa387-d-1568eb00\"" refl refl (a-field "Accept-Ranges" "bytes" refl refl (a-field "Content-Length" "51" refl refl (a-field "Vary" "Accept-Encoding" refl refl (a-field "Content-Type" "text/printable" refl refl the-end))))))))
 
 -- RFC 9112, 3.2.1
 pub origin-form : request-head strict (ascii "GET /where?q=now HTTP/1.1\r\nHost: www.example.org\r\n\r\n") (asks "GET" "/where?q=now") (field "Host" "www.example.org" ∷ [])
@@ -85,9 +85,9 @@ unfolding isToken isTarget isValue isBlank isDigit within among
 partial = a-response 2 0 6 "Partial Content" refl refl (a-field "Date" "Wed, 15 Nov 1995 06:25:24 GMT" refl refl (a-field "Last-Modified" "Wed, 15 Nov 1995 04:58:08 GMT" refl refl (a-field "Content-Range" "bytes 21010-47021/47022" refl refl (a-field "Content-Length" "26012" refl refl (a-field "Content-Type" "image/gif" refl refl the-end)))))
 
 -- RFC 9110, 15.5.22
-pub required : response-head strict (ascii "HTTP/1.1 426 Upgrade Required\r\nUpgrade: HTTP/3.0\r\nConnection: Upgrade\r\nContent-Length: 53\r\nContent-Type: text/plain\r\n\r\n") (answers 426 "Upgrade Required") (field "Upgrade" "HTTP/3.0" ∷ field "Connection" "Upgrade" ∷ field "Content-Length" "53" ∷ field "Content-Type" "text/plain" ∷ [])
+pub required : response-head strict (ascii "HTTP/1.1 426 Upgrade Required\r\nUpgrade: HTTP/3.0\r\nConnection: Upgrade\r\nContent-Length: 53\r\nContent-Type: text/printable\r\n\r\n") (answers 426 "Upgrade Required") (field "Upgrade" "HTTP/3.0" ∷ field "Connection" "Upgrade" ∷ field "Content-Length" "53" ∷ field "Content-Type" "text/printable" ∷ [])
 unfolding isToken isTarget isValue isBlank isDigit within among
-required = a-response 4 2 6 "Upgrade Required" refl refl (a-field "Upgrade" "HTTP/3.0" refl refl (a-field "Connection" "Upgrade" refl refl (a-field "Content-Length" "53" refl refl (a-field "Content-Type" "text/plain" refl refl the-end))))
+required = a-response 4 2 6 "Upgrade Required" refl refl (a-field "Upgrade" "HTTP/3.0" refl refl (a-field "Connection" "Upgrade" refl refl (a-field "Content-Length" "53" refl refl (a-field "Content-Type" "text/printable" refl refl the-end))))
 
 -- what the examples do not show: a version that is not known, and a field with no value
 pub other-version : request-head strict (ascii "GET / HTTP/2.3\r\nHost:\r\n\r\n") (record { method = ascii "GET"; target = ascii "/"; version = record { major = 2; minor = 3 } }) (field "Host" "" ∷ [])
@@ -120,8 +120,8 @@ extensions =
     (chunked.chunk-ext.value none none (a-token "a" refl) none none
     (chunked.chunk-ext-val.string
     (fields.quoted-string.marks
-    (fields.quoted.plain (fields.qdtext.behind-backslash (in-range 0x5D 0x7E 0x62 refl))
-    (fields.quoted.plain (fields.qdtext.before-backslash (in-range 0x23 0x5B 0x23 refl))
+    (fields.quoted.unescaped (fields.qdtext.behind-backslash (in-range 0x5D 0x7E 0x62 refl))
+    (fields.quoted.unescaped (fields.qdtext.before-backslash (in-range 0x23 0x5B 0x23 refl))
     (fields.quoted.escaped (fields.quoted-pair.pair (bytes.text.field (bytes.visible (in-range 0x21 0x7E 0x22 refl))))
-    (fields.quoted.plain (fields.qdtext.behind-backslash (in-range 0x5D 0x7E 0x63 refl)) fields.quoted.none))))))
+    (fields.quoted.unescaped (fields.qdtext.behind-backslash (in-range 0x5D 0x7E 0x63 refl)) fields.quoted.none))))))
     (chunked.chunk-ext.value none none (a-token "d" refl) (more (bytes.blank.space refl) none) (more (bytes.blank.space refl) none) (chunked.chunk-ext-val.word (a-token "e" refl)) chunked.chunk-ext.none)))

@@ -100,7 +100,7 @@ no-end b f g crlf zs ys e = eqb-false 13 b f (same-head e)
 no-end b f g (lf t) zs ys e = eqb-false 10 b g (same-head e)
 
 no-given : {r : Rules} {w g : List ℕ} → r .obs-reason ≡ false → reason-phrase r w g → g ≡ [] → ⊥
-no-given f (grammar.reason-phrase.plain (some x k)) e = never cc
+no-given f (grammar.reason-phrase.ascii (some x k)) e = never cc
 no-given f (grammar.reason-phrase.whole t (some x k)) e = never cc
 no-given f (grammar.reason-phrase.emptied t k o l) e = clash t f
 

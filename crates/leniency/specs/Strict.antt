@@ -13,7 +13,7 @@ use Rattle.octets.specs.Grammar as bytes
 use Rattle.rules.specs.Rules.{Rules, strict, default}
 use Rattle.grammar.specs.Rows.{Many, none, more, Some, some}
 use Rattle.grammar.specs.Fields.{Field}
-use Rattle.grammar.specs.Message.{line-end, crlf, lf, empty-lines, Version, HTTP-version, one-zero, one-one, other, request-target, RequestLine, request-line, status-code, plain-text, reason-phrase, StatusLine, status-line, header-block, head, request-head, response-head}
+use Rattle.grammar.specs.Message.{line-end, crlf, lf, empty-lines, Version, HTTP-version, one-zero, one-one, other, request-target, RequestLine, request-line, status-code, ascii-text, reason-phrase, StatusLine, status-line, header-block, head, request-head, response-head}
 use Rattle.grammar.specs.Message as grammar
 use Rattle.agreement.specs.Rows.{some-as, many-append}
 use Rattle.grammar.specs.Chunked.{hexadecimal, chunk-size, behind-size, chunk-line}
@@ -72,20 +72,20 @@ pub strict-request : {w : List ℕ} {l : RequestLine} {fs : List Field} → requ
 strict-request h k = head-as never never (λ v. request-line-too k) h
 
 -- obs-reason: a reason that is plain text
-some-plain : {w : List ℕ} → Some text w → Many plain-text w → Some plain-text w
-some-plain (some x k) (more y l) = some y l
+some-ascii : {w : List ℕ} → Some text w → Many ascii-text w → Some ascii-text w
+some-ascii (some x k) (more y l) = some y l
 
-reason-too : {w g : List ℕ} → Many plain-text g → reason-phrase strict w g → reason-phrase default w g
-reason-too p (grammar.reason-phrase.plain k) = grammar.reason-phrase.plain k
-reason-too p (grammar.reason-phrase.whole t k) = grammar.reason-phrase.plain (some-plain k p)
+reason-too : {w g : List ℕ} → Many ascii-text g → reason-phrase strict w g → reason-phrase default w g
+reason-too p (grammar.reason-phrase.ascii k) = grammar.reason-phrase.ascii k
+reason-too p (grammar.reason-phrase.whole t k) = grammar.reason-phrase.ascii (some-ascii k p)
 reason-too p (grammar.reason-phrase.emptied t k o l) = never t
 
-status-line-too : {l : StatusLine} → Known (l .version) → Many plain-text (l .reason) → {w : List ℕ} → status-line strict w l → status-line default w l
+status-line-too : {l : StatusLine} → Known (l .version) → Many ascii-text (l .reason) → {w : List ℕ} → status-line strict w l → status-line default w l
 status-line-too k p (grammar.status-line.reason v c x) = grammar.status-line.reason (version-known k v) (code-too c) (reason-too p x)
 status-line-too k p (grammar.status-line.no-reason v c) = grammar.status-line.no-reason (version-known k v) (code-too c)
 status-line-too k p (grammar.status-line.code-ends t v c) = never t
 
-pub strict-response : {w : List ℕ} {l : StatusLine} {fs : List Field} → response-head strict w l fs → Known (l .version) → Many plain-text (l .reason) → response-head default w l fs
+pub strict-response : {w : List ℕ} {l : StatusLine} {fs : List Field} → response-head strict w l fs → Known (l .version) → Many ascii-text (l .reason) → response-head default w l fs
 strict-response h k p = head-as never never (λ v. status-line-too k p) h
 
 -- and a reason with obs-text is given as empty
@@ -100,9 +100,9 @@ text-parts : (u v : List ℕ) (c : ℕ) → Many text (u ++ (c ∷ v)) → Many 
 text-parts [] v c (more x k) = (none, k)
 text-parts (b ∷ u) v c (more x k) = let m = text-parts u v c k in (more x (m .0), m .1)
 
-plain-is-text : (b : ℕ) → plain-text b → text b
-plain-is-text b (grammar.plain-text.white h) = bytes.text.white h
-plain-is-text b (grammar.plain-text.visible h) = bytes.text.field (bytes.visible h)
+ascii-is-text : (b : ℕ) → ascii-text b → text b
+ascii-is-text b (grammar.ascii-text.white h) = bytes.text.white h
+ascii-is-text b (grammar.ascii-text.visible h) = bytes.text.field (bytes.visible h)
 
 emptied : {w : List ℕ} → Some text w → Obsolete w → reason-phrase default w []
 emptied (some x k) o =
@@ -110,7 +110,7 @@ emptied (some x k) o =
     subst (λ y. reason-phrase default y []) (sym (o .whole)) (grammar.reason-phrase.emptied refl (m .0) (o .here) (m .1))
 
 reason-emptied : {w g : List ℕ} → Obsolete g → reason-phrase strict w g → reason-phrase default w []
-reason-emptied o (grammar.reason-phrase.plain k) = emptied (some-as plain-is-text k) o
+reason-emptied o (grammar.reason-phrase.ascii k) = emptied (some-as ascii-is-text k) o
 reason-emptied o (grammar.reason-phrase.whole t k) = emptied k o
 reason-emptied o (grammar.reason-phrase.emptied t k p l) = never t
 

@@ -1,4 +1,4 @@
--- The classes of bytes that a head is read by, each as a test.
+-- The classes of bytes as the reader asks for them: each a test, with no table.
 -- Assumes nothing.
 use Prim.Native.Nat.{ℕ}
 use mathlib.Core.List.{List, [], _∷_}

@@ -31,8 +31,8 @@ use Rattle.plain.specs.Derived.{plain-block, plain-request-derived, plain-reque
 use Rattle.startline.specs.Answers.{numberOf}
 use Rattle.plain.specs.Short.{request-short, response-short, block-short}
 use Rattle.places.specs.Lies.{bytesOf, one-point, requestOf, statusOf, Complete, Lies, AtMost, RequestLies, ResponseLies, BlockLies}
-use Rattle.writer.specs.declared.Plain.{Plain}
-use Rattle.writer.specs.declared.Plain.the-variants.{Written}
+use Rattle.writer.specs.declared.Writing.{Writing}
+use Rattle.writer.specs.declared.Writing.the-variants.{Written}
 use Rattle.writer.specs.Promise.{request-form, response-form, block-form, PlainPromise, was-written, writes, asks}
 use Rattle.onereading.specs.Statements.{CanBeWritten, ReadBack, WrittenAgain}
 use Rattle.onereading.specs.Derivation.{request-one, response-one}
@@ -54,14 +54,14 @@ module _ {L K : Type 0} {Head : List ℕ → L → List Field → Type 0} {Says 
         subst (λ y. Head (plain y (fieldsIn s count new)) y (fieldsIn s count new)) (sym said) (derived (H .bytes) (H .said) (fieldsIn s count new) (H .head))
 
     -- with room its plain form is written, and without it is asked for, since it is at most twice as long as what was read
-    can-write : ((w : List ℕ) (l : L) (fs : List Field) → Head w l fs → length (plain l fs) ≤ length w * 2) → {Writable : Type 0} {out : List ℕ} {r : Plain} {out′ : List ℕ} → PlainPromise s Writable form out r out′ → Writable → CanBeWritten form out r
+    can-write : ((w : List ℕ) (l : L) (fs : List Field) → Head w l fs → length (plain l fs) ≤ length w * 2) → {Writable : Type 0} {out : List ℕ} {r : Writing} {out′ : List ℕ} → PlainPromise s Writable form out r out′ → Writable → CanBeWritten form out r
     can-write short W v =
         let H = P .complete q e in
         let l : length form ≤ length (H .bytes) * 2 = subst (λ y. length (plain y (fieldsIn s count new)) ≤ length (H .bytes) * 2) (sym said) (short (H .bytes) (H .said) (fieldsIn s count new) (H .head)) in
         (writes W v, asks W v (omega (arith, l, ap length (H .whole), length-append (H .bytes) (H .rest))))
 
     -- its plain form is written over out, and what begins with the bytes written is read by a call with slots enough
-    module _ {Writable : Type 0} {out : List ℕ} {r : Plain} {out′ : List ℕ} {n : ℕ} (W : PlainPromise s Writable form out r out′) (w : r ≡ Written n) where
+    module _ {Writable : Type 0} {out : List ℕ} {r : Writing} {out′ : List ℕ} {n : ℕ} (W : PlainPromise s Writable form out r out′) (w : r ≡ Written n) where
       bytes-written : take n out′ ≡ form
       bytes-written = let x = was-written W w in ap (take n) (x .3) ∙ take-at form (drop n out) n (sym (x .1))
 
@@ -79,7 +79,7 @@ module _ {L K : Type 0} {Head : List ℕ → L → List Field → Type 0} {Says 
             }
 
         -- and what was read back is written once more, with room enough
-        again : {Writable₂ : Type 0} {out₂ : List ℕ} {r₂ : Plain} {out₂′ : List ℕ} → PlainPromise z Writable₂ (plain (told z line′) (fieldsIn z count′ new′)) out₂ r₂ out₂′ → Writable₂ → n ≤ length out₂ → WrittenAgain n out′ r₂ out₂′
+        again : {Writable₂ : Type 0} {out₂ : List ℕ} {r₂ : Writing} {out₂′ : List ℕ} → PlainPromise z Writable₂ (plain (told z line′) (fieldsIn z count′ new′)) out₂ r₂ out₂′ → Writable₂ → n ≤ length out₂ → WrittenAgain n out′ r₂ out₂′
         again {out₂ = out₂} {out₂′ = out₂′} X v h =
             let x = was-written W w in
             let f : plain (told z line′) (fieldsIn z count′ new′) ≡ form = ap (λ y. plain y (fieldsIn z count′ new′)) (back .line-again) ∙ ap (plain (told s line)) (back .fields-again) in
@@ -115,7 +115,7 @@ RequestPromise s old head new = HeadPromise (request-head default) RequestSays R
 version-is : (n : ℕ) (v : Version) → v .major ≡ 1 → n ≡ v .minor → one-point n ≡ v
 version-is n v h e = ap (λ y. record { major = y; minor = n }) (sym h) ∙ ap (λ y. record { major = v .major; minor = y }) e
 
-request-told : (z : List ℕ) (k : RequestLine) (w : List ℕ) (l : grammar.RequestLine) (fs : List Field) → request-head default w l fs → RequestSays z k l → requestOf z k ≡ l
+pub request-told : (z : List ℕ) (k : RequestLine) (w : List ℕ) (l : grammar.RequestLine) (fs : List Field) → request-head default w l fs → RequestSays z k l → requestOf z k ≡ l
 request-told z k w l fs h a =
     ap (λ y. record { method = y; target = bytesOf z (k .target); version = one-point (numberOf (k .version)) }) (bytes-held z (k .method) (a .method))
     ∙ ap (λ y. record { method = l .method; target = y; version = one-point (numberOf (k .version)) }) (bytes-held z (k .target) (a .target))
@@ -134,7 +134,7 @@ module _ {s old : List ℕ} {head : RequestHead} {new : List ℕ} (P : RequestPr
         headers = record { room = omega (arith, P .within .0, P .within .1); inside = P .inside .1 };
       }
 
-  pub request-written : {out : List ℕ} {r : Plain} {out′ : List ℕ} → PlainPromise s (RequestLies s head new) (request-form s head new) out r out′ → CanBeWritten (request-form s head new) out r
+  pub request-written : {out : List ℕ} {r : Writing} {out′ : List ℕ} → PlainPromise s (RequestLies s head new) (request-form s head new) out r out′ → CanBeWritten (request-form s head new) out r
   request-written W = can-write requestOf plain-request request-told (λ w l fs. plain-request-derived refl) P e (λ w l fs. request-short) W request-writable
 
   -- what is written is a head under default with the same fields, and under strict if the target is strict
@@ -144,20 +144,20 @@ module _ {s old : List ℕ} {head : RequestHead} {new : List ℕ} (P : RequestPr
   pub request-plain-strict : request-target strict (requestOf s (head .line) .target) → request-head strict (request-form s head new) (requestOf s (head .line)) (fieldsIn s (head .count) new)
   request-plain-strict t = plain-request-strict request-plain t
 
-module _ {s old : List ℕ} {head : RequestHead} {new : List ℕ} (P : RequestPromise s old head new) {q : ℕ} (e : head .end ≡ At q) {Writable : Type 0} {out : List ℕ} {r : Plain} {out′ : List ℕ} {n : ℕ} (W : PlainPromise s Writable (request-form s head new) out r out′) (w : r ≡ Written n) (t : List ℕ) {z old′ : List ℕ} {head′ : RequestHead} {new′ : List ℕ} (b : z ≡ take n out′ ++ t) (Q : RequestPromise z old′ head′ new′) (room : head .count ≤ length old′ / 4) where
+module _ {s old : List ℕ} {head : RequestHead} {new : List ℕ} (P : RequestPromise s old head new) {q : ℕ} (e : head .end ≡ At q) {Writable : Type 0} {out : List ℕ} {r : Writing} {out′ : List ℕ} {n : ℕ} (W : PlainPromise s Writable (request-form s head new) out r out′) (w : r ≡ Written n) (t : List ℕ) {z old′ : List ℕ} {head′ : RequestHead} {new′ : List ℕ} (b : z ≡ take n out′ ++ t) (Q : RequestPromise z old′ head′ new′) (room : head .count ≤ length old′ / 4) where
   -- a call on the bytes written, with anything behind them, is complete at their end and gives the same fields back
   pub request-back : ReadBack RequestSays requestOf s (head .line) (head .count) new n z (head′ .end) (head′ .line) (head′ .count) new′
   request-back = back requestOf plain-request request-told (λ w l fs. plain-request-derived refl) P e W w t b Q room
 
   -- what was read back is written as the same bytes
-  pub request-again : {out₂ : List ℕ} {r₂ : Plain} {out₂′ : List ℕ} → PlainPromise z (RequestLies z head′ new′) (request-form z head′ new′) out₂ r₂ out₂′ → n ≤ length out₂ → WrittenAgain n out′ r₂ out₂′
+  pub request-again : {out₂ : List ℕ} {r₂ : Writing} {out₂′ : List ℕ} → PlainPromise z (RequestLies z head′ new′) (request-form z head′ new′) out₂ r₂ out₂′ → n ≤ length out₂ → WrittenAgain n out′ r₂ out₂′
   request-again X h = again requestOf plain-request request-told (λ w l fs. plain-request-derived refl) P e W w t b Q room X (request-writable Q (request-back .end)) h
 
 -- responses
 abbrev pub ResponsePromise : List ℕ → List ℕ → ResponseHead → List ℕ → Type 0
 ResponsePromise s old head new = HeadPromise (response-head default) StatusSays StatusInside s old (head .end) (head .line) (head .count) new
 
-status-told : (z : List ℕ) (k : StatusLine) (w : List ℕ) (l : grammar.StatusLine) (fs : List Field) → response-head default w l fs → StatusSays z k l → statusOf z k ≡ l
+pub status-told : (z : List ℕ) (k : StatusLine) (w : List ℕ) (l : grammar.StatusLine) (fs : List Field) → response-head default w l fs → StatusSays z k l → statusOf z k ≡ l
 status-told z k w l fs h a =
     ap (λ y. record { version = y; code = numberOf (k .code); reason = bytesOf z (k .reason) }) (version-is (numberOf (k .version)) (l .version) (response-one h .0) (number-counted (k .version) (a .version)))
     ∙ ap (λ y. record { version = l .version; code = y; reason = bytesOf z (k .reason) }) (number-counted (k .code) (a .code))
@@ -173,11 +173,11 @@ module _ {s old : List ℕ} {head : ResponseHead} {new : List ℕ} (P : Response
         complete = reached e;
         version = counted-most 9 (head .line .version) (H .says .version) (d .1);
         code = counted-most 999 (head .line .code) (H .says .code) (d .2);
-        reason = held-lies (Many grammar.plain-text) s (head .line .reason) (H .said .reason) (H .says .reason) (P .inside .0 .reason);
+        reason = held-lies (Many grammar.ascii-text) s (head .line .reason) (H .said .reason) (H .says .reason) (P .inside .0 .reason);
         headers = record { room = omega (arith, P .within .0, P .within .1); inside = P .inside .1 };
       }
 
-  pub response-written : {out : List ℕ} {r : Plain} {out′ : List ℕ} → PlainPromise s (ResponseLies s head new) (response-form s head new) out r out′ → CanBeWritten (response-form s head new) out r
+  pub response-written : {out : List ℕ} {r : Writing} {out′ : List ℕ} → PlainPromise s (ResponseLies s head new) (response-form s head new) out r out′ → CanBeWritten (response-form s head new) out r
   response-written W = can-write statusOf plain-response status-told (λ w l fs. plain-response-derived refl refl) P e (λ w l fs. response-short) W response-writable
 
   -- what is written is a head under default with the same fields, and under strict if the code is strict
@@ -187,13 +187,13 @@ module _ {s old : List ℕ} {head : ResponseHead} {new : List ℕ} (P : Response
   pub response-plain-strict : status-code strict (plain-code (statusOf s (head .line) .code)) (statusOf s (head .line) .code) → response-head strict (response-form s head new) (statusOf s (head .line)) (fieldsIn s (head .count) new)
   response-plain-strict c = plain-response-strict response-plain c
 
-module _ {s old : List ℕ} {head : ResponseHead} {new : List ℕ} (P : ResponsePromise s old head new) {q : ℕ} (e : head .end ≡ At q) {Writable : Type 0} {out : List ℕ} {r : Plain} {out′ : List ℕ} {n : ℕ} (W : PlainPromise s Writable (response-form s head new) out r out′) (w : r ≡ Written n) (t : List ℕ) {z old′ : List ℕ} {head′ : ResponseHead} {new′ : List ℕ} (b : z ≡ take n out′ ++ t) (Q : ResponsePromise z old′ head′ new′) (room : head .count ≤ length old′ / 4) where
+module _ {s old : List ℕ} {head : ResponseHead} {new : List ℕ} (P : ResponsePromise s old head new) {q : ℕ} (e : head .end ≡ At q) {Writable : Type 0} {out : List ℕ} {r : Writing} {out′ : List ℕ} {n : ℕ} (W : PlainPromise s Writable (response-form s head new) out r out′) (w : r ≡ Written n) (t : List ℕ) {z old′ : List ℕ} {head′ : ResponseHead} {new′ : List ℕ} (b : z ≡ take n out′ ++ t) (Q : ResponsePromise z old′ head′ new′) (room : head .count ≤ length old′ / 4) where
   -- a call on the bytes written, with anything behind them, is complete at their end and gives the same fields back
   pub response-back : ReadBack StatusSays statusOf s (head .line) (head .count) new n z (head′ .end) (head′ .line) (head′ .count) new′
   response-back = back statusOf plain-response status-told (λ w l fs. plain-response-derived refl refl) P e W w t b Q room
 
   -- what was read back is written as the same bytes
-  pub response-again : {out₂ : List ℕ} {r₂ : Plain} {out₂′ : List ℕ} → PlainPromise z (ResponseLies z head′ new′) (response-form z head′ new′) out₂ r₂ out₂′ → n ≤ length out₂ → WrittenAgain n out′ r₂ out₂′
+  pub response-again : {out₂ : List ℕ} {r₂ : Writing} {out₂′ : List ℕ} → PlainPromise z (ResponseLies z head′ new′) (response-form z head′ new′) out₂ r₂ out₂′ → n ≤ length out₂ → WrittenAgain n out′ r₂ out₂′
   response-again X h = again statusOf plain-response status-told (λ w l fs. plain-response-derived refl refl) P e W w t b Q room X (response-writable Q (response-back .end)) h
 
 -- headers alone
@@ -205,18 +205,18 @@ module _ {s old : List ℕ} {block : Block} {new : List ℕ} (P : BlockPromise s
   pub headers-writable : BlockLies s block new
   headers-writable = record { complete = reached e; headers = record { room = omega (arith, P .within .0, P .within .1); inside = P .inside .1 } }
 
-  pub headers-written : {out : List ℕ} {r : Plain} {out′ : List ℕ} → PlainPromise s (BlockLies s block new) (block-form s block new) out r out′ → CanBeWritten (block-form s block new) out r
+  pub headers-written : {out : List ℕ} {r : Writing} {out′ : List ℕ} → PlainPromise s (BlockLies s block new) (block-form s block new) out r out′ → CanBeWritten (block-form s block new) out r
   headers-written W = can-write (λ z k. k) (λ l fs. plain-fields fs) (λ z k w l fs h a. refl) (λ w l fs. plain-block) P e (λ w l fs. block-short) W headers-writable
 
   -- what is written is a block under strict with the same fields, and so under all rules
   pub headers-plain : (rules : Rules) → header-block rules (block-form s block new) (fieldsIn s (block .count) new)
   headers-plain rules = plain-block (P .complete q e .head)
 
-module _ {s old : List ℕ} {block : Block} {new : List ℕ} (P : BlockPromise s old block new) {q : ℕ} (e : block .end ≡ At q) {Writable : Type 0} {out : List ℕ} {r : Plain} {out′ : List ℕ} {n : ℕ} (W : PlainPromise s Writable (block-form s block new) out r out′) (w : r ≡ Written n) (t : List ℕ) {z old′ : List ℕ} {block′ : Block} {new′ : List ℕ} (b : z ≡ take n out′ ++ t) (Q : BlockPromise z old′ block′ new′) (room : block .count ≤ length old′ / 4) where
+module _ {s old : List ℕ} {block : Block} {new : List ℕ} (P : BlockPromise s old block new) {q : ℕ} (e : block .end ≡ At q) {Writable : Type 0} {out : List ℕ} {r : Writing} {out′ : List ℕ} {n : ℕ} (W : PlainPromise s Writable (block-form s block new) out r out′) (w : r ≡ Written n) (t : List ℕ) {z old′ : List ℕ} {block′ : Block} {new′ : List ℕ} (b : z ≡ take n out′ ++ t) (Q : BlockPromise z old′ block′ new′) (room : block .count ≤ length old′ / 4) where
   -- a call on the bytes written, with anything behind them, is complete at their end and gives the same fields back
   pub headers-back : ReadBack {L = Unit {0}} {K = Unit {0}} says-nothing (λ z k. k) s tt (block .count) new n z (block′ .end) tt (block′ .count) new′
   headers-back = back (λ z k. k) (λ l fs. plain-fields fs) (λ z k w l fs h a. refl) (λ w l fs. plain-block) P e W w t b Q room
 
   -- what was read back is written as the same bytes
-  pub headers-again : {out₂ : List ℕ} {r₂ : Plain} {out₂′ : List ℕ} → PlainPromise z (BlockLies z block′ new′) (block-form z block′ new′) out₂ r₂ out₂′ → n ≤ length out₂ → WrittenAgain n out′ r₂ out₂′
+  pub headers-again : {out₂ : List ℕ} {r₂ : Writing} {out₂′ : List ℕ} → PlainPromise z (BlockLies z block′ new′) (block-form z block′ new′) out₂ r₂ out₂′ → n ≤ length out₂ → WrittenAgain n out′ r₂ out₂′
   headers-again X h = again (λ z k. k) (λ l fs. plain-fields fs) (λ z k w l fs h a. refl) (λ w l fs. plain-block) P e W w t b Q room X (headers-writable Q (headers-back .end)) h

@@ -119,7 +119,7 @@ module _ {s old : List ℕ} {end : Passed} {count : ℕ} {new : List ℕ} where
       (λ s u k k′ l i e h. record {
         version = number-agrees (k .version) (k′ .version) (l .version .minor) (e .version) (h .version);
         code = number-agrees (k .code) (k′ .code) (l .code) (e .code) (h .code);
-        reason = piece-agrees (Many grammar.plain-text) s u (k .reason) (k′ .reason) (l .reason) (i .reason) (e .reason) (h .reason);
+        reason = piece-agrees (Many grammar.ascii-text) s u (k .reason) (k′ .reason) (l .reason) (i .reason) (e .reason) (h .reason);
       })
       s u (response-promise T) (response-promise (all .told)) (response-stays (length old / 4) s u T (all .told))
 

@@ -23,8 +23,8 @@ use Rattle.chunks.specs.declared.ChunkSize.{ChunkSize}
 use Rattle.chunks.specs.declared.ChunkSize.the-variants as sizes
 use Rattle.agreement.specs.Places.{held}
 use Rattle.agreement.specs.Known.{fieldsIn}
-use Rattle.writer.specs.declared.Plain.{Plain}
-use Rattle.writer.specs.declared.Plain.the-variants.{Written, Needs}
+use Rattle.writer.specs.declared.Writing.{Writing}
+use Rattle.writer.specs.declared.Writing.the-variants.{Written, Needs}
 use Rattle.rows.specs.declared.RowRead.{RowRead}
 use Rattle.rows.specs.declared.Stop.the-variants as stops
 use Rattle.rows.specs.Row.{Row, Fitting, RowPromise}
@@ -132,7 +132,7 @@ pub record RowStays (r r′ : RowRead) (new new′ : List ℕ) : Type 0 where
 
 -- The plain form. What a call read completely can be written: with room for its form it is, and without it the writer's answer r tells
 -- how much is needed
-abbrev pub CanBeWritten : List ℕ → List ℕ → Plain → Type 0
+abbrev pub CanBeWritten : List ℕ → List ℕ → Writing → Type 0
 CanBeWritten form out r = (length form ≤ length out → r ≡ Written (length form)) × (length out < length form → r ≡ Needs (length form))
 
 -- Says is how a call tells a start line, and told what it has told. A call on s was complete, the form of what it read was written, n
@@ -146,5 +146,5 @@ pub record ReadBack {L K : Type 0} (Says : List ℕ → K → L → Type 0) (tol
   pub fields-again : fieldsIn z count′ new′ ≡ fieldsIn s count new
 
 -- Plain of plain is plain: what was read back is written with the answer r into bytes that become again, and out had the first form
-abbrev pub WrittenAgain : ℕ → List ℕ → Plain → List ℕ → Type 0
+abbrev pub WrittenAgain : ℕ → List ℕ → Writing → List ℕ → Type 0
 WrittenAgain n out r again = (r ≡ Written n) × (take n again ≡ take n out)

@@ -1,4 +1,4 @@
--- What the code's answers mean to the reader.
+-- What the answers of a part of a head mean to the reader.
 -- Assumes nothing.
 use Prim.Native.Nat.{ℕ, _-_}
 use Rattle.reader.specs.Answer.{Answer, got, short, bad}

@@ -14,7 +14,7 @@ pub one-more : (left : ℕ) {count k : ℕ} → count ≡ k + left → k < count
 one-more zero e h = absurd (omega (arith, h, e))
 one-more (suc n) e h = (n, refl)
 
--- the header of the four slots from i on
+-- the header of the four numbers from i on
 abbrev pub fieldAt : List ℕ → List ℕ → ℕ → Field
 fieldAt s slots i = record { name = take (getD slots (i + 1) 0) (drop (getD slots i 0) s); value = take (getD slots (i + 3) 0) (drop (getD slots (i + 2) 0) s) }
 

@@ -99,7 +99,7 @@ nothing {n} {k} {s} v d = subst (λ w. status-line s w (record { version = n; co
 -- the parts of a status line, under rules that take them
 status-plain : {r s : Rules} {w : List ℕ} {l : StatusLine} → status-line r w l → ((v : List ℕ) → HTTP-version r v (l .version) → HTTP-version s (plain-version (l .version)) (l .version)) → ((c : List ℕ) → status-code r c (l .code) → status-code s (plain-code (l .code)) (l .code)) →
     (r .obs-reason ≡ false → Some text (l .reason) → reason-phrase s (l .reason) (l .reason)) → status-line s (plain-version (l .version) ++ space ++ plain-code (l .code) ++ space ++ l .reason) l
-status-plain (grammar.status-line.reason {v = a} {c = b} v c (grammar.reason-phrase.plain k)) f g i = grammar.status-line.reason (f a v) (g b c) (grammar.reason-phrase.plain k)
+status-plain (grammar.status-line.reason {v = a} {c = b} v c (grammar.reason-phrase.ascii k)) f g i = grammar.status-line.reason (f a v) (g b c) (grammar.reason-phrase.ascii k)
 status-plain (grammar.status-line.reason {v = a} {c = b} v c (grammar.reason-phrase.whole t k)) f g i = grammar.status-line.reason (f a v) (g b c) (i t k)
 status-plain (grammar.status-line.reason {v = a} {c = b} v c (grammar.reason-phrase.emptied t k o u)) f g i = nothing (f a v) (g b c)
 status-plain (grammar.status-line.no-reason {v = a} {c = b} v c) f g i = nothing (f a v) (g b c)

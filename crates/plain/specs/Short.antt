@@ -38,7 +38,7 @@ module _ {r : Rules} where
   code-three (grammar.status-code.any t a b c) = refl
 
   reason-given : {w g : List ℕ} → reason-phrase r w g → length g ≤ length w
-  reason-given (grammar.reason-phrase.plain k) = omega arith
+  reason-given (grammar.reason-phrase.ascii k) = omega arith
   reason-given (grammar.reason-phrase.whole t k) = omega arith
   reason-given (grammar.reason-phrase.emptied t a b c) = omega arith
 

@@ -21,7 +21,7 @@ pub enum Answer {
     Wrong(Fault),
 }
 
-// What the first line tells, as far as it is known.
+// What the start line tells, as far as it is known.
 pub enum First {
     Request(RequestLine),
     Status(StatusLine),

@@ -21,7 +21,7 @@ const LONGEST: usize = 1024;
 // The most blocks that are read.
 const MOST_BLOCKS: usize = 1000;
 
-// What every slot holds before a call.
+// What every number of the slots is before a call.
 const UNTOUCHED: usize = 7777777;
 
 // The call that a row's first number names, on the first `count` bytes and the first `lent` numbers.

@@ -12,7 +12,7 @@ use startline::KnownNumber;
 use startline::KnownPiece;
 use statusline::StatusLine;
 
-// What the first line tells.
+// What the start line tells.
 pub fn first_line(page: &mut Page, at: usize, raw: bool, s: &[u8], first: First) -> usize {
     match first {
         First::Request(line) => request_line(page, at, raw, s, line),

@@ -1,4 +1,4 @@
--- What the code's answers mean to the reader.
+-- What the answers of a start line mean to the reader: as far as it is known.
 -- Assumes nothing.
 use Prim.Native.Nat.{ℕ}
 use mathlib.Core.Path.{_≡_, refl}

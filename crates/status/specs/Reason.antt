@@ -35,14 +35,14 @@ reasonStep (inside a obs) p b = cond (isValue b) (keep (inside a (obs || not (is
 abbrev pub reason : List ℕ → ℕ → Answer (Unit {0}) Piece Error
 reason xs at = reads reasonStep none xs at
 
--- a plain byte of a reason
+-- an ASCII byte of a reason
 both : ℕ → Bool
 both b = isValue b && isAscii b
 
 module _ (xs : List ℕ) (a : ℕ) where
-  plain-passed : {i j : ℕ} → i ≤ length xs → Passed isValue xs i j → Passed isAscii xs i j → runAt reasonStep (inside a false) xs i ≡ runAt reasonStep (inside a false) xs j
+  ascii-passed : {i j : ℕ} → i ≤ length xs → Passed isValue xs i j → Passed isAscii xs i j → runAt reasonStep (inside a false) xs i ≡ runAt reasonStep (inside a false) xs j
   unfolding both
-  plain-passed l v c = skip reasonStep both (inside a false) (λ q b e. let w = both-true (isValue b) (isAscii b) e in rw (w .0, w .1)) xs l (record { from = v .from; inside = v .inside; past = v .past; all = λ k lo hi. rw (v .all k lo hi, c .all k lo hi) })
+  ascii-passed l v c = skip reasonStep both (inside a false) (λ q b e. let w = both-true (isValue b) (isAscii b) e in rw (w .0, w .1)) xs l (record { from = v .from; inside = v .inside; past = v .past; all = λ k lo hi. rw (v .all k lo hi, c .all k lo hi) })
 
   obs-passed : {i j : ℕ} → i ≤ length xs → Passed isValue xs i j → runAt reasonStep (inside a true) xs i ≡ runAt reasonStep (inside a true) xs j
   obs-passed l v = skip reasonStep isValue (inside a true) (λ q b e. rw e) xs l v
@@ -84,12 +84,12 @@ module _ (xs : List ℕ) (at : ℕ) {r : ℕ} (v : Skipped isValue xs at r) wher
     c : Passed isAscii xs at q
     c = part-passed xs r k (v .passed .from) l
 
-    pub reason-plain : r ≤ q → got (piece at r) r ≡ reason xs at
-    reason-plain e = go (decLt at r)
+    pub reason-ascii : r ≤ q → got (piece at r) r ≡ reason xs at
+    reason-ascii e = go (decLt at r)
       where
         go : Dec (at < r) → got (piece at r) r ≡ reason xs at
         go (yes h) =
-            rw (run-in reasonStep none xs at (omega arith), v .passed .all at (omega arith) h, c .all at (omega arith) (omega arith), plain-passed xs at {i = at + 1} {j = r} (omega arith) (passed-part (at + 1) r (v .passed) (omega arith) (omega arith) (omega arith)) (passed-part (at + 1) r c (omega arith) (omega arith) e), run-in reasonStep (inside at false) xs r l, v .stop l)
+            rw (run-in reasonStep none xs at (omega arith), v .passed .all at (omega arith) h, c .all at (omega arith) (omega arith), ascii-passed xs at {i = at + 1} {j = r} (omega arith) (passed-part (at + 1) r (v .passed) (omega arith) (omega arith) (omega arith)) (passed-part (at + 1) r c (omega arith) (omega arith) e), run-in reasonStep (inside at false) xs r l, v .stop l)
         go (no h) = let u : r ≡ at = omega (arith, v .passed .from) in rw (u, run-in reasonStep none xs at (omega arith), rw u at (v .stop l))
 
     pub reason-obs : q < r → got (empty at) r ≡ reason xs at
@@ -100,11 +100,11 @@ module _ (xs : List ℕ) (at : ℕ) {r : ℕ} (v : Skipped isValue xs at r) wher
 
         go : Dec (at < q) → got (empty at) r ≡ reason xs at
         go (yes h) =
-            rw (run-in reasonStep none xs at (omega arith), v .passed .all at (omega arith) (omega arith), c .all at (omega arith) h, plain-passed xs at {i = at + 1} {j = q} (omega arith) (passed-part (at + 1) q (v .passed) (omega arith) (omega arith) (omega arith)) (passed-part (at + 1) q c (omega arith) (omega arith) (omega arith)), run-in reasonStep (inside at false) xs q (omega arith), v .passed .all q (omega arith) e, part-stop xs r k (v .passed .from) l e, behind, run-in reasonStep (inside at true) xs r l, v .stop l)
+            rw (run-in reasonStep none xs at (omega arith), v .passed .all at (omega arith) (omega arith), c .all at (omega arith) h, ascii-passed xs at {i = at + 1} {j = q} (omega arith) (passed-part (at + 1) q (v .passed) (omega arith) (omega arith) (omega arith)) (passed-part (at + 1) q c (omega arith) (omega arith) (omega arith)), run-in reasonStep (inside at false) xs q (omega arith), v .passed .all q (omega arith) e, part-stop xs r k (v .passed .from) l e, behind, run-in reasonStep (inside at true) xs r l, v .stop l)
         go (no h) =
             let u : q ≡ at = omega (arith, c .from) in
             let s : isAscii (getD xs at 0) ≡ false = rw u at (part-stop xs r k (v .passed .from) l e) in
             let b : runAt reasonStep (inside at true) xs (at + 1) ≡ runAt reasonStep (inside at true) xs r = rw u at behind in
             rw (run-in reasonStep none xs at (omega arith), v .passed .all at (omega arith) (omega arith), s, b, run-in reasonStep (inside at true) xs r l, v .stop l)
 
-pub ruleset reasons = (reason-more, reason-plain, reason-obs)
+pub ruleset reasons = (reason-more, reason-ascii, reason-obs)

@@ -64,8 +64,8 @@ pub fn reason(s: &[u8], at: usize) -> Found
         return Found::More;
     }
     // no further than the reason: what stands behind a head is not looked at
-    let plain = skips::skip_ascii(&s[..end], at);
-    if plain < end {
+    let ascii = skips::skip_ascii(&s[..end], at);
+    if ascii < end {
         return Found::At(
             Piece {
                 offset: at,

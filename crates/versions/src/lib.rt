@@ -1,4 +1,4 @@
-// The version of a first line.
+// The version of a start line.
 ghost use mathlib.Core.Path.{_≡_};
 ghost use Rattle.parts.specs.Answers.{number};
 ghost use Rattle.versions.specs.Version.{version as versionAt};

@@ -10,7 +10,6 @@ use Rattle.parts.specs.declared.Piece.{Piece}
 use Rattle.startline.specs.declared.KnownPiece.{KnownPiece}
 use Rattle.startline.specs.declared.KnownPiece.the-variants as pieces
 use Rattle.startline.specs.declared.KnownNumber.{KnownNumber}
-use Rattle.startline.specs.declared.KnownNumber.the-variants as numbers
 use Rattle.agreement.specs.Places.{held}
 use Rattle.agreement.specs.Known.{fieldsIn, SlotsInside}
 use Rattle.plain.specs.Plain.{plain-version, plain-code, plain-field, plain-fields}

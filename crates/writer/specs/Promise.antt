@@ -1,6 +1,6 @@
 -- What a writer's answer means, whatever it was given.
 -- Assumes nothing.
-use Prim.Native.Nat.{ℕ, _+_, _*_, _≤_, _<_}
+use Prim.Native.Nat.{ℕ, _*_, _≤_, _<_}
 use native.Mathlib.Omega.{arith}
 use mathlib.Core.Path.{_≡_, refl, sym, ap, _∙_}
 use mathlib.Core.List.{List, [], _++_}
@@ -17,8 +17,8 @@ use Rattle.heads.specs.declared.ResponseHead.{ResponseHead}
 use Rattle.blocks.specs.declared.Block.{Block}
 use Rattle.places.specs.Lies.{requestOf, statusOf, SlotsLie, RequestLies, ResponseLies, BlockLies}
 use Rattle.places.specs.Checks.{Decides}
-use Rattle.writer.specs.declared.Plain.{Plain}
-use Rattle.writer.specs.declared.Plain.the-variants.{Written, Needs, Unwritable, TooLong}
+use Rattle.writer.specs.declared.Writing.{Writing}
+use Rattle.writer.specs.declared.Writing.the-variants.{Written, Needs, Unwritable, TooLong}
 
 -- the plain form of what a call read
 abbrev pub request-form : List ℕ → RequestHead → List ℕ → List ℕ
@@ -32,7 +32,7 @@ block-form s block slots = plain-fields (fieldsIn s (block .count) slots)
 
 -- Writable says of what was read that it is complete and lies in the input s, form is its plain form, and old are the lent bytes; last
 -- stand the answer and the bytes behind it. The form is a head if what was read is what a call answered on the same input.
-pub data PlainPromise (s : List ℕ) (Writable : Type 0) (form old : List ℕ) : Plain → List ℕ → Type 0 where
+pub data PlainPromise (s : List ℕ) (Writable : Type 0) (form old : List ℕ) : Writing → List ℕ → Type 0 where
   -- the form was written, and the bytes behind it are as they were
   written : {n : ℕ} {new : List ℕ} → Writable → n ≡ length form → n ≤ length old → new ≡ form ++ drop n old → PlainPromise s Writable form old (Written n) new
   -- the form has so many bytes, for which there is no room, and nothing was written
@@ -88,21 +88,21 @@ module _ {s : List ℕ} {Writable : Type 0} {form old : List ℕ} where
           written (d .yes t) l h (w .behind [] old (nothing-put old) .bytes (omega (arith, l, h)) ∙ ap (λ y. form ++ drop y old) (sym l))
 
 -- a writer that answers Written has written
-pub was-written : {s : List ℕ} {Writable : Type 0} {form old : List ℕ} {r : Plain} {new : List ℕ} → PlainPromise s Writable form old r new → {n : ℕ} → r ≡ Written n → Writable × (n ≡ length form) × (n ≤ length old) × (new ≡ form ++ drop n old)
+pub was-written : {s : List ℕ} {Writable : Type 0} {form old : List ℕ} {r : Writing} {new : List ℕ} → PlainPromise s Writable form old r new → {n : ℕ} → r ≡ Written n → Writable × (n ≡ length form) × (n ≤ length old) × (new ≡ form ++ drop n old)
 was-written {form = form} {old = old} (written {n = m} f l h e) {n} x = let y : m ≡ n = cc in (f, sym y ∙ l, omega (arith, y, h), e ∙ ap (λ z. form ++ drop z old) y)
 was-written (needs f l h g) x = never cc
 was-written (unwritable f) x = never cc
 was-written (too-long f g h i) x = never cc
 
 -- a writer with room for a form that can be written answers Written
-pub writes : {s : List ℕ} {Writable : Type 0} {form old : List ℕ} {r : Plain} {new : List ℕ} → PlainPromise s Writable form old r new → Writable → length form ≤ length old → r ≡ Written (length form)
+pub writes : {s : List ℕ} {Writable : Type 0} {form old : List ℕ} {r : Writing} {new : List ℕ} → PlainPromise s Writable form old r new → Writable → length form ≤ length old → r ≡ Written (length form)
 writes (written f l h e) w i = ap Written l
 writes (needs f l h g) w i = absurd (omega (arith, l, h, i))
 writes (unwritable f) w i = absurd (f w)
 writes (too-long f l g h) w i = absurd (omega (arith, l, i, g))
 
 -- and without room it tells how much is needed, if that is at most twice the input
-pub asks : {s : List ℕ} {Writable : Type 0} {form old : List ℕ} {r : Plain} {new : List ℕ} → PlainPromise s Writable form old r new → Writable → length form ≤ length s * 2 → length old < length form → r ≡ Needs (length form)
+pub asks : {s : List ℕ} {Writable : Type 0} {form old : List ℕ} {r : Writing} {new : List ℕ} → PlainPromise s Writable form old r new → Writable → length form ≤ length s * 2 → length old < length form → r ≡ Needs (length form)
 asks (written f l h e) w t i = absurd (omega (arith, l, h, i))
 asks (needs f l h g) w t i = ap Needs l
 asks (unwritable f) w t i = absurd (f w)

@@ -70,7 +70,7 @@ fn code(out: &mut [u8], at: usize, known: KnownNumber) -> usize
     )
 }
 
-// The header of four slots.
+// The header of four numbers.
 fn field(out: &mut [u8], at: usize, s: &[u8], slots: &[usize], i: usize) -> usize
     requires { ⌜ i + 4 ≤ length (now slots) ⌝ }
     requires { ⌜ SlotLies (length (now s)) (now slots) i ⌝ }

@@ -1,4 +1,4 @@
--- `heads::request` meets its contract: its first line and its block are the head's two parts.
+-- `heads::request` meets its contract: its start line and its block are the head's two parts.
 -- Assumes nothing.
 use borrow.Author.Needs.{needs}
 use Rattle.heads.specs.Calls.{calls}

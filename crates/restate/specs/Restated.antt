@@ -1,0 +1,114 @@
+-- What restating an input comes to: the plain form of the head at its start, wherever there is one that fits.
+-- Assumes nothing.
+use Prim.Native.Nat.{ℕ, _/_, _≤_, _<_}
+use mathlib.Core.Path.{_≡_, refl, sym, ap, subst, _∙_}
+use mathlib.Core.List.{List, _++_}
+use mathlib.Core.Bool.{Bool, true, false}
+use lib.Dec.{ltb}
+use lib.ListN.{length, drop}
+use borrow.Author.Tests.{ltb-true, ltb-false}
+use Rattle.reader.specs.Tests.{never}
+use Rattle.rules.specs.Rules.{default}
+use Rattle.grammar.specs.Fields.{Field}
+use Rattle.grammar.specs.Message.{request-head, response-head}
+use Rattle.parts.specs.declared.Passed.{Passed}
+use Rattle.parts.specs.declared.Passed.the-variants.{At}
+use Rattle.heads.specs.declared.RequestHead.{RequestHead}
+use Rattle.heads.specs.declared.ResponseHead.{ResponseHead}
+use Rattle.blocks.specs.declared.Block.{Block}
+use Rattle.agreement.specs.Known.{fieldsIn}
+use Rattle.agreement.specs.Promises.{HeadPromise, block-alone}
+use Rattle.plain.specs.Plain.{plain-request, plain-response, plain-fields}
+use Rattle.places.specs.Lies.{requestOf, statusOf, Complete, RequestLies, ResponseLies, BlockLies}
+use Rattle.wording.specs.declared.Kind.{Kind}
+use Rattle.wording.specs.declared.Kind.the-variants.{Request, Response, Headers, Chunk}
+use Rattle.writer.specs.declared.Writing.{Writing}
+use Rattle.writer.specs.declared.Writing.the-variants.{Written, Needs, Unwritable, TooLong}
+use Rattle.writer.specs.Promise.{request-form, response-form, block-form, PlainPromise, written, needs, unwritable, too-long}
+use Rattle.onereading.specs.Statements.{CanBeWritten}
+use Rattle.onereading.specs.RoundTrip.{RequestPromise, request-told, request-written, request-plain, ResponsePromise, status-told, response-written, response-plain, BlockPromise, headers-written, headers-plain}
+
+-- a head has at most as many fields as are kept
+abbrev pub most : ℕ
+most = 100
+
+-- Head is what the grammar calls a head, plain its plain form, old the page before, and last stand the answer and the page after
+pub data Restated {L : Type 0} (Head : List ℕ → L → List Field → Type 0) (plain : L → List Field → List ℕ) (s old : List ℕ) : Writing → List ℕ → Type 0 where
+  -- the input begins with a head w, and its plain form, which is a head with the same fields, stands at the page's start
+  form : {w : List ℕ} (t : List ℕ) {l : L} {fs : List Field} {n : ℕ} {new : List ℕ} → s ≡ w ++ t → Head w l fs → Head (plain l fs) l fs → n ≡ length (plain l fs) → new ≡ plain l fs ++ drop n old → Restated Head plain s old (Written n) new
+  -- the input begins with no head that has at most so many fields and whose plain form fits the page, which is as it was
+  nothing : {r : Writing} → ((n : ℕ) → r ≡ Written n → ⊥) → ((w t : List ℕ) (l : L) (fs : List Field) → s ≡ w ++ t → Head w l fs → length fs ≤ most → length old < length (plain l fs)) → Restated Head plain s old r old
+
+-- what is not Written
+asked : (n m : ℕ) → Needs n ≡ Written m → ⊥
+asked n m e = never cc
+
+refused : (m : ℕ) → Unwritable ≡ Written m → ⊥
+refused m e = never cc
+
+beyond : (m : ℕ) → TooLong ≡ Written m → ⊥
+beyond m e = never cc
+
+module _ {L K : Type 0} {Head : List ℕ → L → List Field → Type 0} {Says : List ℕ → K → L → Type 0} {In : List ℕ → K → Type 0} (told : List ℕ → K → L) (plain : L → List Field → List ℕ)
+    (told-said : (z : List ℕ) (k : K) (w : List ℕ) (l : L) (fs : List Field) → Head w l fs → Says z k l → told z k ≡ l)
+    {s slots : List ℕ} {end : Passed} {line : K} {count : ℕ} {new : List ℕ} (P : HeadPromise Head Says In s slots end line count new) (many : length slots ≡ 400) where
+  abbrev plainly : List ℕ
+  plainly = plain (told s line) (fieldsIn s count new)
+
+  -- where nothing was written, a head that fits has no room
+  no-room : (out : List ℕ) {r : Writing} → ((q : ℕ) → end ≡ At q → CanBeWritten plainly out r) → ((n : ℕ) → r ≡ Written n → ⊥) → (w t : List ℕ) (l : L) (fs : List Field) → s ≡ w ++ t → Head w l fs → length fs ≤ most → length out < length (plain l fs)
+  no-room out can not w t l fs e h f = subst (λ y. length out < length y) same (by (ltb (length out) (length plainly)) refl)
+    where
+      fits : length fs ≤ length slots / 4
+      fits = subst (λ y. length fs ≤ y / 4) (sym many) f
+
+      same : plainly ≡ plain l fs
+      same = let A = P .accepts w t l fs e h fits in ap (λ y. plain y (fieldsIn s count new)) (told-said s line w l fs h (A .1)) ∙ ap (plain l) (A .2)
+
+      by : (b : Bool) → ltb (length out) (length plainly) ≡ b → length out < length plainly
+      by true t = ltb-true (length out) (length plainly) t
+      by false t = absurd (not (length plainly) (can (length w) (P .accepts w _ l fs e h fits .0) .0 (ltb-false (length out) (length plainly) t)))
+
+  restated : {Writable : Type 0} {out : List ℕ} {r : Writing} {out′ : List ℕ} → PlainPromise s Writable plainly out r out′ → (Writable → (q : ℕ) × (end ≡ At q)) → ((q : ℕ) → end ≡ At q → CanBeWritten plainly out r) → ((q : ℕ) → end ≡ At q → Head plainly (told s line) (fieldsIn s count new)) → Restated Head plain s out r out′
+  restated (written v l h e) reach can head =
+      let q = reach v in
+      let H = P .complete (q .0) (q .1) in
+      form (H .rest) (H .whole) (subst (λ y. Head (H .bytes) y (fieldsIn s count new)) (sym (told-said s line (H .bytes) (H .said) (fieldsIn s count new) (H .head) (H .says))) (H .head)) (head (q .0) (q .1)) l e
+  restated {out = out} (needs {n = n} v l h g) reach can head = nothing (λ m. asked n m) (no-room out can (λ m. asked n m))
+  restated {out = out} (unwritable v) reach can head = nothing refused (no-room out can refused)
+  restated {out = out} (too-long v l g h) reach can head = nothing beyond (no-room out can beyond)
+
+reached : {e : Passed} → Complete e → (q : ℕ) × (e ≡ At q)
+reached (Complete.at q) = (q, refl)
+
+module _ {s slots : List ℕ} {out : List ℕ} {r : Writing} {out′ new : List ℕ} where
+  pub restated-request : {head : RequestHead} → RequestPromise s slots head new → length slots ≡ 400 → PlainPromise s (RequestLies s head new) (request-form s head new) out r out′ → Restated (request-head default) plain-request s out r out′
+  restated-request P m W = restated requestOf plain-request request-told P m W (λ v. reached (v .complete)) (λ q e. request-written P e W) (λ q e. request-plain P e)
+
+  pub restated-response : {head : ResponseHead} → ResponsePromise s slots head new → length slots ≡ 400 → PlainPromise s (ResponseLies s head new) (response-form s head new) out r out′ → Restated (response-head default) plain-response s out r out′
+  restated-response P m W = restated statusOf plain-response status-told P m W (λ v. reached (v .complete)) (λ q e. response-written P e W) (λ q e. response-plain P e)
+
+  pub restated-headers : {block : Block} → BlockPromise s slots block new → length slots ≡ 400 → PlainPromise s (BlockLies s block new) (block-form s block new) out r out′ → Restated block-alone (λ l fs. plain-fields fs) s out r out′
+  restated-headers P m W = restated (λ z k. k) (λ l fs. plain-fields fs) (λ z k w l fs h a. refl) P m W (λ v. reached (v .complete)) (λ q e. headers-written P e W) (λ q e. headers-plain P e default)
+
+-- what was asked for: a kind of head, or a chunk size line, which has no plain form
+pub data Restatement (s old : List ℕ) : Kind → Writing → List ℕ → Type 0 where
+  request : {r : Writing} {new : List ℕ} → Restated (request-head default) plain-request s old r new → Restatement s old Request r new
+  response : {r : Writing} {new : List ℕ} → Restated (response-head default) plain-response s old r new → Restatement s old Response r new
+  headers : {r : Writing} {new : List ℕ} → Restated block-alone (λ l fs. plain-fields fs) s old r new → Restatement s old Headers r new
+  chunk : Restatement s old Chunk Unwritable old
+
+module _ {s old : List ℕ} {kind : Kind} where
+  pub as-request : kind ≡ Request → {r : Writing} {new : List ℕ} → Restated (request-head default) plain-request s old r new → Restatement s old kind r new
+  as-request e {r} {new} x = subst (λ k. Restatement s old k r new) (sym e) (request x)
+
+  pub as-response : kind ≡ Response → {r : Writing} {new : List ℕ} → Restated (response-head default) plain-response s old r new → Restatement s old kind r new
+  as-response e {r} {new} x = subst (λ k. Restatement s old k r new) (sym e) (response x)
+
+  pub as-headers : kind ≡ Headers → {r : Writing} {new : List ℕ} → Restated block-alone (λ l fs. plain-fields fs) s old r new → Restatement s old kind r new
+  as-headers e {r} {new} x = subst (λ k. Restatement s old k r new) (sym e) (headers x)
+
+  pub as-chunk : kind ≡ Chunk → {r : Writing} → r ≡ Unwritable → Restatement s old kind r old
+  as-chunk e {r} f = subst (λ k. Restatement s old k r old) (sym e) (subst (λ y. Restatement s old Chunk y old) (sym f) chunk)
+
+pub ruleset restatements = (as-request, as-response, as-headers, as-chunk)
