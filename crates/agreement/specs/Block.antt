@@ -15,7 +15,7 @@ use Rattle.rules.specs.Rules.{Rules}
 use Rattle.fields.specs.declared.Header.{Header}
 use Rattle.fields.specs.Line.{Kind, lineStep}
 use Rattle.blocks.specs.Block.{taken, lapStep, blockStep, block-fresh}
-use Rattle.grammar.specs.Lengths.{ends-long}
+use Rattle.lengths.specs.Lengths.{ends-long}
 use Rattle.agreement.specs.Line.{Lined, exact-line}
 
 -- a line with the headers hs before it and n slots

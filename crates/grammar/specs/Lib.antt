@@ -2,4 +2,3 @@ pub mod Rows
 pub mod Fields
 pub mod Message
 pub mod Chunked
-pub mod Lengths

@@ -9,7 +9,7 @@ use lib.Seq.{take-at}
 use Rattle.rules.specs.Rules.{default}
 use Rattle.grammar.specs.Fields.{Field}
 use Rattle.grammar.specs.Message.{request-head, response-head}
-use Rattle.grammar.specs.Lengths.{head-long}
+use Rattle.lengths.specs.Lengths.{head-long}
 use Rattle.heads.specs.Head.{Heads}
 use Rattle.heads.specs.Calls.{request, response}
 use Rattle.rows.specs.declared.Stop.{Stop}

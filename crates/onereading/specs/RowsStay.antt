@@ -11,7 +11,7 @@ use Rattle.reader.specs.Answer.{bad}
 use Rattle.rules.specs.Rules.{default}
 use Rattle.grammar.specs.Fields.{Field}
 use Rattle.grammar.specs.Message.{request-head, response-head}
-use Rattle.grammar.specs.Lengths.{head-long}
+use Rattle.lengths.specs.Lengths.{head-long}
 use Rattle.parts.specs.declared.Error.{Error}
 use Rattle.parts.specs.declared.Passed.the-variants.{Bad}
 use Rattle.heads.specs.Head.{Heads, Known}

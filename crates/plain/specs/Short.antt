@@ -10,7 +10,7 @@ use Rattle.grammar.specs.Rows.{some}
 use Rattle.grammar.specs.Fields.{Field}
 use Rattle.grammar.specs.Message.{space, colon, CRLF, Version, HTTP-version, RequestLine, request-line, status-code, reason-phrase, StatusLine, status-line, field-line, header-block, request-head, response-head}
 use Rattle.grammar.specs.Message as grammar
-use Rattle.grammar.specs.Lengths.{ends-long}
+use Rattle.lengths.specs.Lengths.{ends-long}
 use Rattle.plain.specs.Plain.{plain-version, plain-code, plain-field, plain-fields, plain-request-line, plain-status-line, plain-request, plain-response}
 
 -- a name, a colon and a value

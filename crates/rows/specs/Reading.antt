@@ -9,7 +9,7 @@ use lib.Seq.{take-all, drop-at, drop-cons, set-at}
 use Rattle.rules.specs.Rules.{default}
 use Rattle.grammar.specs.Fields.{Field}
 use Rattle.grammar.specs.Message.{request-head, response-head}
-use Rattle.grammar.specs.Lengths.{head-long}
+use Rattle.lengths.specs.Lengths.{head-long}
 use Rattle.parts.specs.declared.Error.{Error}
 use Rattle.parts.specs.declared.Error.the-variants.{TooManyHeaders}
 use Rattle.parts.specs.declared.Passed.{Passed}

@@ -1,13 +1,13 @@
--- Laws: no line end, header block or head is empty.
+-- No line end, header block or head is empty.
 -- Assumes nothing.
 use Prim.Native.Nat.{ℕ, _≤_}
 use native.Mathlib.Omega.{arith}
 use mathlib.Core.List.{List, _++_}
 use lib.ListN.{length, length-append}
 use Rattle.rules.specs.Rules.{Rules}
 use Rattle.grammar.specs.Fields.{Field}
 use Rattle.grammar.specs.Message.{line-end, crlf, lf, header-block, head}
 use Rattle.grammar.specs.Message as grammar
 
 module _ {r : Rules} where
   pub ends-long : {w : List ℕ} → line-end r w → 1 ≤ length w
