@@ -34,6 +34,10 @@ struct expected {
     uint64_t slots[NUMBERS];
 };
 
+/* Rows that are longer than what is tested at once. */
+#define TEN "aaaaaaaaaa"
+#define SEVENTY TEN TEN TEN TEN TEN TEN TEN
+
 static const struct expected CASES[] = {
     {REQUEST, "GET / HTTP/1.1\r\nHost: a\r\nX:\r\n\r\nbody", HR_COMPLETE,
      {31, 2, REQUEST_LINE, 0, 3, 4, 1, 1}, {16, 4, 22, 1, 25, 1, 27, 0}},
@@ -43,6 +47,10 @@ static const struct expected CASES[] = {
     {REQUEST, "GET / HTTP/2", HR_VERSION, {0, 0, HR_KNOWS_METHOD | HR_KNOWS_TARGET, 0, 3, 4, 1, 0}, {0}},
     {REQUEST, "GET / HTTP/1.1\r\n\rA", HR_NEW_LINE, {0, 0, REQUEST_LINE, 0, 3, 4, 1, 1}, {0}},
     {RESPONSE, "HTTP/1.1 200 OK\r\nA: b\r\n\r\n", HR_COMPLETE, {25, 1, STATUS_LINE, 1, 200, 13, 2, 0}, {17, 1, 20, 1}},
+    {REQUEST, SEVENTY " /" SEVENTY " HTTP/1.1\r\n" SEVENTY ": " SEVENTY "\r\n\r\n", HR_COMPLETE,
+     {299, 1, REQUEST_LINE, 0, 70, 71, 71, 1}, {153, 70, 225, 70}},
+    {RESPONSE, "HTTP/1.1 200 " SEVENTY "\r\n" SEVENTY ":" SEVENTY "\r\n\r\n", HR_COMPLETE,
+     {230, 1, STATUS_LINE, 1, 200, 13, 70, 0}, {85, 70, 156, 70}},
     {RESPONSE, "HTTP/1.0 204\r\n\r\n", HR_COMPLETE, {16, 0, STATUS_LINE, 0, 204, 0, 0, 0}, {0}},
     {RESPONSE, "HTTP/1.1 204", HR_INCOMPLETE, {0, 0, HR_KNOWS_VERSION | HR_KNOWS_CODE, 1, 204, 0, 0, 0}, {0}},
     {RESPONSE, "HTTP/1.1 x", HR_STATUS, {0, 0, HR_KNOWS_VERSION, 1, 0, 0, 0, 0}, {0}},

@@ -2,16 +2,28 @@
 ghost use Rattle.reader.specs.Skip.{Skipped};
 ghost use Rattle.octets.specs.Class.{isAscii, isBlank, isTarget, isToken, isValue};
 
+mod eights;
+
+// Where all eight are of the class, the next position does not wait for what they are: the processor guesses, and reads on.
 // Each skip answers where the row of bytes of its class that starts at `at` ends, and `at` itself where that is past the end.
 pub fn skip_token(s: &[u8], at: usize) -> usize
     ensures { λ r. ⌜ Skipped isToken (now (s .entry)) at r ⌝ }
 {
     let mut i = at;
     while i < s.len() {
-        if !octets::is_token(s[i]) {
-            return i;
+        let n = eights::token(s, i);
+        if n == 8 {
+            i += 8;
+        } else {
+            i += n;
+            if s.len() <= i {
+                return i;
+            }
+            if !octets::is_token(s[i]) {
+                return i;
+            }
+            i += 1;
         }
-        i += 1;
     }
     i
 }
@@ -21,10 +33,19 @@ pub fn skip_target(s: &[u8], at: usize) -> usize
 {
     let mut i = at;
     while i < s.len() {
-        if !octets::is_target(s[i]) {
-            return i;
+        let n = eights::target(s, i);
+        if n == 8 {
+            i += 8;
+        } else {
+            i += n;
+            if s.len() <= i {
+                return i;
+            }
+            if !octets::is_target(s[i]) {
+                return i;
+            }
+            i += 1;
         }
-        i += 1;
     }
     i
 }
@@ -34,10 +55,19 @@ pub fn skip_value(s: &[u8], at: usize) -> usize
 {
     let mut i = at;
     while i < s.len() {
-        if !octets::is_value(s[i]) {
-            return i;
+        let n = eights::value(s, i);
+        if n == 8 {
+            i += 8;
+        } else {
+            i += n;
+            if s.len() <= i {
+                return i;
+            }
+            if !octets::is_value(s[i]) {
+                return i;
+            }
+            i += 1;
         }
-        i += 1;
     }
     i
 }
@@ -60,10 +90,19 @@ pub fn skip_ascii(s: &[u8], at: usize) -> usize
 {
     let mut i = at;
     while i < s.len() {
-        if !octets::is_ascii(s[i]) {
-            return i;
+        let n = eights::ascii(s, i);
+        if n == 8 {
+            i += 8;
+        } else {
+            i += n;
+            if s.len() <= i {
+                return i;
+            }
+            if !octets::is_ascii(s[i]) {
+                return i;
+            }
+            i += 1;
         }
-        i += 1;
     }
     i
 }

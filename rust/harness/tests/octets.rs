@@ -39,29 +39,51 @@ fn expected_end(class: Class, bytes: &[u8], at: usize) -> usize {
     }
 }
 
+/// Eight bytes are tested at once, so the stopping byte stands at every place of nine such rows, the row starts at every alignment,
+/// and the slice ends right behind it, a byte later, or much later.
 #[test]
 fn every_stopping_byte_at_every_place() {
+    const PLACES: usize = 65;
+    const ALIGNMENTS: usize = 8;
     let mut count = 0u64;
     for class in SKIPPED {
         let inside = (0..=255)
             .find(|byte| expected(class, *byte))
             .expect("a class has a byte");
-        for place in 0..40 {
+        for place in 0..PLACES {
             for stop in 0..=255 {
-                let mut bytes = [inside; 40];
-                bytes[place] = stop;
-                for at in [0, 1, place, 39, 40, 41, usize::MAX] {
-                    assert_eq!(
-                        skip(class, &bytes, at),
-                        expected_end(class, &bytes, at),
-                        "{class:?} from {at} in {bytes:02x?}"
-                    );
-                    count += 1;
+                let mut bytes = [inside; ALIGNMENTS + PLACES + 9];
+                for start in 0..ALIGNMENTS {
+                    bytes[start + place] = stop;
+                    for behind in [0, 1, 9] {
+                        let row = &bytes[start..start + place + 1 + behind];
+                        assert_eq!(
+                            skip(class, row, 0),
+                            expected_end(class, row, 0),
+                            "{class:?} in {row:02x?}"
+                        );
+                        count += 1;
+                    }
+                    bytes[start + place] = inside;
                 }
             }
         }
     }
     println!("octets: {count} skips with a stopping byte, no difference");
+}
+
+#[test]
+fn every_start_of_a_skip() {
+    for class in SKIPPED {
+        let bytes = [b'a'; 40];
+        for at in (0..=41).chain([usize::MAX - 8, usize::MAX]) {
+            assert_eq!(
+                skip(class, &bytes, at),
+                expected_end(class, &bytes, at),
+                "{class:?} from {at}"
+            );
+        }
+    }
 }
 
 #[test]

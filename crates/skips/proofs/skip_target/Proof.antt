@@ -3,7 +3,8 @@
 use Prim.Native.Nat.{_-_}
 use borrow.Author.Needs.{needs}
 use lib.ListN.{length}
-use Rattle.reader.specs.Skip.{Passed, skips}
+use Rattle.reader.specs.Skip.{Passed}
+use Rattle.skips.specs.Ahead.{aheads}
 use Rattle.octets.specs.Class.{isTarget}
 use Rattle.skips.proofs.skip_target.Statement.{statement}
 use Rattle.skips.proofs.skip_target.Tie as tie
@@ -20,11 +21,17 @@ skip-target-spec =
     (tie.spec
     Inv-loop
     μ-loop
-    (λ c. search (needs, skips))
+    (λ c. search (needs, aheads))
+    (λ c κs. search needs)
+    (λ c. search needs)
+    (λ c. search needs)
+    (λ c. search (needs, aheads))
+    (λ c. search needs)
+    (λ c. search (needs, aheads))
     (λ c. search needs)
     (λ c κs. search needs)
-    (λ c. search (needs, skips))
+    (λ c. search (needs, aheads))
     (λ c. search needs)
     (λ c. search needs)
-    (λ c. search (needs, skips))
-    (λ c. search (needs, skips)))
+    (λ c. search (needs, aheads))
+    (λ c. search (needs, aheads)))

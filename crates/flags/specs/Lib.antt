@@ -1,0 +1,4 @@
+pub mod Test
+pub mod Lowest
+pub mod Sure
+pub mod Classes

@@ -1,0 +1,80 @@
+// How many of the next eight bytes are surely of a class: none, where fewer than eight are left.
+ghost use Prim.Native.Nat.{_+_, _≤_, _<_};
+ghost use mathlib.Core.Path.{_≡_};
+ghost use lib.ListN.{length, getD};
+ghost use Rattle.octets.specs.Class.{isAscii, isTarget, isToken, isValue};
+ghost use Rattle.flags.specs.Test.{word};
+ghost use Rattle.skips.specs.Ahead.{Ahead, Loaded};
+
+fn wide(b: u8) -> u64
+    ensures { λ r. ⌜ (r ≡ b) × (r < 256) ⌝ }
+{
+    b as u64
+}
+
+// The first byte lowest: one load in the compiled code.
+fn load(s: &[u8], i: usize) -> u64
+    requires { ⌜ i + 8 ≤ length (now s) ⌝ }
+    ensures { λ r. ⌜ r ≡ word (λ k. getD (now (s .entry)) (i + k) 0) 0 8 ⌝ }
+{
+    wide(s[i + 0])
+        + 256
+            * (wide(s[i + 1])
+                + 256
+                    * (wide(s[i + 2])
+                        + 256
+                            * (wide(s[i + 3])
+                                + 256
+                                    * (wide(s[i + 4])
+                                        + 256
+                                            * (wide(s[i + 5])
+                                                + 256 * (wide(s[i + 6]) + 256 * wide(s[i + 7])))))))
+}
+
+// The same, with what is known of its bytes.
+fn eight(s: &[u8], i: usize) -> u64
+    requires { ⌜ i + 8 ≤ length (now s) ⌝ }
+    ensures { λ r. ⌜ Loaded (now (s .entry)) i r ⌝ }
+{
+    load(s, i)
+}
+
+pub(crate) fn token(s: &[u8], i: usize) -> usize
+    requires { ⌜ i ≤ length (now s) ⌝ }
+    ensures { λ r. ⌜ Ahead isToken (now (s .entry)) i r ⌝ }
+{
+    if s.len() - i < 8 {
+        return 0;
+    }
+    flags::token(eight(s, i))
+}
+
+pub(crate) fn target(s: &[u8], i: usize) -> usize
+    requires { ⌜ i ≤ length (now s) ⌝ }
+    ensures { λ r. ⌜ Ahead isTarget (now (s .entry)) i r ⌝ }
+{
+    if s.len() - i < 8 {
+        return 0;
+    }
+    flags::target(eight(s, i))
+}
+
+pub(crate) fn value(s: &[u8], i: usize) -> usize
+    requires { ⌜ i ≤ length (now s) ⌝ }
+    ensures { λ r. ⌜ Ahead isValue (now (s .entry)) i r ⌝ }
+{
+    if s.len() - i < 8 {
+        return 0;
+    }
+    flags::value(eight(s, i))
+}
+
+pub(crate) fn ascii(s: &[u8], i: usize) -> usize
+    requires { ⌜ i ≤ length (now s) ⌝ }
+    ensures { λ r. ⌜ Ahead isAscii (now (s .entry)) i r ⌝ }
+{
+    if s.len() - i < 8 {
+        return 0;
+    }
+    flags::ascii(eight(s, i))
+}
