@@ -30,9 +30,9 @@ use Rattle.blocks.specs.Block as blocks
 use Rattle.heads.specs.Head.{Heads, Told}
 use Rattle.heads.specs.Calls.{request, response}
 use Rattle.agreement.specs.Known.{Holds, Counts, Inside, fieldsIn, SlotsInside}
-use Rattle.agreement.specs.Promises.{HeadPromise, block-alone}
+use Rattle.agreement.specs.Promises.{HeadPromise, block-alone, says-nothing}
 use Rattle.agreement.specs.Calls.{request-promise, response-promise, headers-promise}
-use Rattle.onereading.specs.Statements.{SamePiece, SameNumber, HeadStays, SoFar, PieceAgrees, NumberAgrees, RequestAgrees, StatusAgrees, NothingTold}
+use Rattle.onereading.specs.Statements.{SamePiece, SameNumber, HeadStays, SoFar, PieceAgrees, NumberAgrees, RequestAgrees, StatusAgrees}
 use Rattle.onereading.specs.Stays.{request-stays, response-stays, headers-stays}
 
 -- what a place holds does not change as bytes arrive behind it
@@ -52,8 +52,8 @@ fields-same z (suc count) a b h =
     let rest = fields-same z count (drop 4 a) (drop 4 b) (λ i l. getD-drop 4 a i 0 ∙ h (4 + i) (omega (arith, l)) ∙ sym (getD-drop 4 b i 0)) in
     rw (h 0 (omega arith), h 1 (omega arith), h 2 (omega arith), h 3 (omega arith), rest)
 
-first-slots : (z : List ℕ) (count : ℕ) (a b : List ℕ) → take (count * 4) a ≡ take (count * 4) b → fieldsIn z count a ≡ fieldsIn z count b
-first-slots z count a b e = fields-same z count a b (λ i l. sym (getD-take (count * 4) a i 0 l) ∙ ap (λ y. getD y i 0) e ∙ getD-take (count * 4) b i 0 l)
+slots-fields : (z : List ℕ) (count : ℕ) (a b : List ℕ) → take (count * 4) a ≡ take (count * 4) b → fieldsIn z count a ≡ fieldsIn z count b
+slots-fields z count a b e = fields-same z count a b (λ i l. sym (getD-take (count * 4) a i 0 l) ∙ ap (λ y. getD y i 0) e ∙ getD-take (count * 4) b i 0 l)
 
 first-fields : (z : List ℕ) (count more : ℕ) (slots : List ℕ) → count ≤ more → (rest : List Field) × (fieldsIn z more slots ≡ fieldsIn z count slots ++ rest)
 first-fields z zero more slots h = (fieldsIn z more slots, refl)
@@ -82,7 +82,7 @@ module _ {L K : Type 0} {Head : List ℕ → L → List Field → Type 0} {Says 
     shown : (fs : List Field) (l : L) → Says (s ++ u) line′ l → (rest : List Field) → fieldsIn (s ++ u) count′ new′ ++ rest ≡ fs → Agrees s line l × ((more : List Field) × (fs ≡ fieldsIn s count new ++ more))
     shown fs l h rest e =
         let f = first-fields (s ++ u) count count′ new′ (S .headers .0) in
-        let g : fieldsIn (s ++ u) count new′ ≡ fieldsIn s count new = first-slots (s ++ u) count new′ new (S .headers .1) ∙ fields-still s u count new (P .inside .1) in
+        let g : fieldsIn (s ++ u) count new′ ≡ fieldsIn s count new = slots-fields (s ++ u) count new′ new (S .headers .1) ∙ fields-still s u count new (P .inside .1) in
         (agrees s u line line′ l (P .inside .0) (S .known) h, (f .0 ++ rest, sym e ∙ ap (λ y. y ++ rest) (f .1 ∙ ap (λ y. y ++ f .0) g) ∙ append-assoc (fieldsIn s count new) (f .0) rest))
 
     so-far-by : (w t : List ℕ) (l : L) (fs : List Field) → s ++ u ≡ w ++ t → Head w l fs → Agrees s line l × ((more : List Field) × (fs ≡ fieldsIn s count new ++ more))
@@ -129,7 +129,7 @@ virtual-block (got hs q) old = (record { end = At q; count = length hs }, filled
 virtual-block (short hs) old = (record { end = More; count = length hs }, filled hs old, record { answer = refl; count = refl; slots = refl })
 virtual-block (bad x) old = (record { end = Bad (x .0); count = length (x .1) }, filled (x .1) old, record { answer = refl; count = refl; slots = refl })
 
-pub headers-so-far : (s : List ℕ) {old : List ℕ} {r : Block} {new : List ℕ} → blocks.Told (block default (length old / 4) [] s 0) r old new → SoFar block-alone NothingTold s tt (r .count) new
+pub headers-so-far : (s : List ℕ) {old : List ℕ} {r : Block} {new : List ℕ} → blocks.Told (block default (length old / 4) [] s 0) r old new → SoFar block-alone says-nothing s tt (r .count) new
 headers-so-far s {old} T u =
     let all = virtual-block (block default (length old / 4) [] (s ++ u) 0) old in
-    so-far-by NothingTold (λ s u k k′ l i e h. tt) s u (headers-promise T) (headers-promise (all .2)) (headers-stays (length old / 4) s u T (all .2))
+    so-far-by says-nothing (λ s u k k′ l i e h. tt) s u (headers-promise T) (headers-promise (all .2)) (headers-stays (length old / 4) s u T (all .2))

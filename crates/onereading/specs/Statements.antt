@@ -61,8 +61,8 @@ pub record HeadStays {K : Type 0} (Same : K → K → Type 0) (end end′ : Pass
   pub known : Same line line′
   pub headers : (count ≤ count′) × (take (count * 4) new′ ≡ take (count * 4) new)
 
--- What is told before the end, and with an error, is true of every head that these bytes may still become, whatever bytes u follow: of its
--- start line what is known (Agrees), and of its fields those in the slots, which are its first
+-- What is told before the end, or with TooManyHeaders, is true of every head that these bytes may still become, whatever bytes u follow: of
+-- its start line what is known (Agrees), and of its fields those in the slots, which are its first. Behind any other error none can come.
 abbrev pub SoFar : {L K : Type 0} → (List ℕ → L → List Field → Type 0) → (List ℕ → K → L → Type 0) → List ℕ → K → ℕ → List ℕ → Type 0
 SoFar {L} Head Agrees s line count new = (u w t : List ℕ) (l : L) (fs : List Field) → s ++ u ≡ w ++ t → Head w l fs → Agrees s line l × ((more : List Field) × (fs ≡ fieldsIn s count new ++ more))
 
@@ -84,9 +84,6 @@ pub record StatusAgrees (s : List ℕ) (k : StatusLine) (l : grammar.StatusLine)
   pub version : NumberAgrees (k .version) (l .version .minor)
   pub code : NumberAgrees (k .code) (l .code)
   pub reason : PieceAgrees s (k .reason) (l .reason)
-
-abbrev pub NothingTold : List ℕ → Unit {0} → Unit {0} → Type 0
-NothingTold s k l = Unit {0}
 
 -- More slots change no answer but TooManyHeaders: what a call told, and what it told (with primes) on the same bytes over at least as many
 -- slots. Where there were too few, the start line is the same, and the headers that were given are the first of those given now.

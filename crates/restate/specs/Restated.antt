@@ -40,14 +40,14 @@ pub data Restated {L : Type 0} (Head : List ℕ → L → List Field → Type 0)
   nothing : {r : Writing} → ((n : ℕ) → r ≡ Written n → ⊥) → ((w t : List ℕ) (l : L) (fs : List Field) → s ≡ w ++ t → Head w l fs → length fs ≤ most → length old < length (plain l fs)) → Restated Head plain s old r old
 
 -- what is not Written
-asked : (n m : ℕ) → Needs n ≡ Written m → ⊥
-asked n m e = never cc
+needs-differs : (n m : ℕ) → Needs n ≡ Written m → ⊥
+needs-differs n m e = never cc
 
-refused : (m : ℕ) → Unwritable ≡ Written m → ⊥
-refused m e = never cc
+unwritable-differs : (m : ℕ) → Unwritable ≡ Written m → ⊥
+unwritable-differs m e = never cc
 
-beyond : (m : ℕ) → TooLong ≡ Written m → ⊥
-beyond m e = never cc
+too-long-differs : (m : ℕ) → TooLong ≡ Written m → ⊥
+too-long-differs m e = never cc
 
 module _ {L K : Type 0} {Head : List ℕ → L → List Field → Type 0} {Says : List ℕ → K → L → Type 0} {In : List ℕ → K → Type 0} (told : List ℕ → K → L) (plain : L → List Field → List ℕ)
     (told-said : (z : List ℕ) (k : K) (w : List ℕ) (l : L) (fs : List Field) → Head w l fs → Says z k l → told z k ≡ l)
@@ -56,8 +56,8 @@ module _ {L K : Type 0} {Head : List ℕ → L → List Field → Type 0} {Says 
   plainly = plain (told s line) (fieldsIn s count new)
 
   -- where nothing was written, a head that fits has no room
-  no-room : (out : List ℕ) {r : Writing} → ((q : ℕ) → end ≡ At q → CanBeWritten plainly out r) → ((n : ℕ) → r ≡ Written n → ⊥) → (w t : List ℕ) (l : L) (fs : List Field) → s ≡ w ++ t → Head w l fs → length fs ≤ most → length out < length (plain l fs)
-  no-room out can not w t l fs e h f = subst (λ y. length out < length y) same (by (ltb (length out) (length plainly)) refl)
+  short-of-room : (out : List ℕ) {r : Writing} → ((q : ℕ) → end ≡ At q → CanBeWritten plainly out r) → ((n : ℕ) → r ≡ Written n → ⊥) → (w t : List ℕ) (l : L) (fs : List Field) → s ≡ w ++ t → Head w l fs → length fs ≤ most → length out < length (plain l fs)
+  short-of-room out can not w t l fs e h f = subst (λ y. length out < length y) same (by (ltb (length out) (length plainly)) refl)
     where
       fits : length fs ≤ length slots / 4
       fits = subst (λ y. length fs ≤ y / 4) (sym many) f
@@ -74,22 +74,22 @@ module _ {L K : Type 0} {Head : List ℕ → L → List Field → Type 0} {Says 
       let q = reach v in
       let H = P .complete (q .0) (q .1) in
       form (H .rest) (H .whole) (subst (λ y. Head (H .bytes) y (fieldsIn s count new)) (sym (told-said s line (H .bytes) (H .said) (fieldsIn s count new) (H .head) (H .says))) (H .head)) (head (q .0) (q .1)) l e
-  restated {out = out} (needs {n = n} v l h g) reach can head = nothing (λ m. asked n m) (no-room out can (λ m. asked n m))
-  restated {out = out} (unwritable v) reach can head = nothing refused (no-room out can refused)
-  restated {out = out} (too-long v l g h) reach can head = nothing beyond (no-room out can beyond)
+  restated {out = out} (needs {n = n} v l h g) reach can head = nothing (λ m. needs-differs n m) (short-of-room out can (λ m. needs-differs n m))
+  restated {out = out} (unwritable v) reach can head = nothing unwritable-differs (short-of-room out can unwritable-differs)
+  restated {out = out} (too-long v l g h) reach can head = nothing too-long-differs (short-of-room out can too-long-differs)
 
-reached : {e : Passed} → Complete e → (q : ℕ) × (e ≡ At q)
-reached (Complete.at q) = (q, refl)
+end-of : {e : Passed} → Complete e → (q : ℕ) × (e ≡ At q)
+end-of (Complete.at q) = (q, refl)
 
 module _ {s slots : List ℕ} {out : List ℕ} {r : Writing} {out′ new : List ℕ} where
   pub restated-request : {head : RequestHead} → RequestPromise s slots head new → length slots ≡ 400 → PlainPromise s (RequestLies s head new) (request-form s head new) out r out′ → Restated (request-head default) plain-request s out r out′
-  restated-request P m W = restated requestOf plain-request request-told P m W (λ v. reached (v .complete)) (λ q e. request-written P e W) (λ q e. request-plain P e)
+  restated-request P m W = restated requestOf plain-request request-told P m W (λ v. end-of (v .complete)) (λ q e. request-written P e W) (λ q e. request-plain P e)
 
   pub restated-response : {head : ResponseHead} → ResponsePromise s slots head new → length slots ≡ 400 → PlainPromise s (ResponseLies s head new) (response-form s head new) out r out′ → Restated (response-head default) plain-response s out r out′
-  restated-response P m W = restated statusOf plain-response status-told P m W (λ v. reached (v .complete)) (λ q e. response-written P e W) (λ q e. response-plain P e)
+  restated-response P m W = restated statusOf plain-response status-told P m W (λ v. end-of (v .complete)) (λ q e. response-written P e W) (λ q e. response-plain P e)
 
   pub restated-headers : {block : Block} → BlockPromise s slots block new → length slots ≡ 400 → PlainPromise s (BlockLies s block new) (block-form s block new) out r out′ → Restated block-alone (λ l fs. plain-fields fs) s out r out′
-  restated-headers P m W = restated (λ z k. k) (λ l fs. plain-fields fs) (λ z k w l fs h a. refl) P m W (λ v. reached (v .complete)) (λ q e. headers-written P e W) (λ q e. headers-plain P e default)
+  restated-headers P m W = restated (λ z k. k) (λ l fs. plain-fields fs) (λ z k w l fs h a. refl) P m W (λ v. end-of (v .complete)) (λ q e. headers-written P e W) (λ q e. headers-plain P e default)
 
 -- what was asked for: a kind of head, or a chunk size line, which has no plain form
 pub data Restatement (s old : List ℕ) : Kind → Writing → List ℕ → Type 0 where
