@@ -6,7 +6,7 @@ use mathlib.Core.Bool.{Bool, true, _||_, not}
 use lib.Dec.{eqb}
 use Rattle.octets.specs.Class.{among, within, isDigit, isBlank, isTarget, isToken, isValue, isAscii}
 use Rattle.octets.specs.Table.{table, same}
-use Rattle.flags.specs.Test.{Test, least, small-least, high, flag, both, either, none, at-byte}
+use Rattle.flags.specs.Test.{Test, least, capital-least, high, flag, both, either, none, at-byte}
 use Rattle.flags.specs.Sure.{flags, clear, Shows, Sure, sure}
 
 -- below 0x20, or DEL; a tab too
@@ -19,7 +19,7 @@ notTarget = both (either (none (least 0x21)) (least 0x7F)) (none high)
 
 -- neither a letter nor a hyphen, of which most names are made; digits and the other marks too
 abbrev pub notToken : Test
-notToken = either (none (either (both (small-least 0x61) (none (small-least 0x7B))) (both (least 0x2D) (none (least 0x2E))))) high
+notToken = either (none (either (both (capital-least 0x41) (none (capital-least 0x5B))) (both (least 0x2D) (none (least 0x2E))))) high
 
 -- from 0x80 on
 abbrev pub notAscii : Test

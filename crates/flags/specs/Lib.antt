@@ -1,4 +1,5 @@
 pub mod Test
 pub mod Lowest
 pub mod Sure
+pub mod Steps
 pub mod Classes

@@ -1,13 +1,12 @@
 -- How many of eight bytes, from the first on, are surely of a class: those before the first that has a flag.
 -- Assumes nothing.
-use Prim.Native.Nat.{ℕ, _/_, _≤_, _<_}
+use Prim.Native.Nat.{ℕ, _≤_, _<_}
 use native.Mathlib.Omega.{arith}
 use native.Mathlib.Nat.{zero-add}
 use mathlib.Core.Path.{_≡_, sym, ap, _∙_}
 use mathlib.Core.Bool.{Bool, true}
-use lib.Count.{trailingZeros, trailing-le}
 use Rattle.flags.specs.Test.{word, Test, flag, both, at-word, at-byte, byte-lt, each-byte}
-use Rattle.flags.specs.Lowest.{zero-below}
+use Rattle.flags.specs.Lowest.{zeros, zeros-le, zero-below}
 
 -- a flag in each byte of which the test holds
 abbrev pub flags : Test → ℕ → ℕ
@@ -15,7 +14,7 @@ flags t x = at-word (both t flag) 8 x
 
 -- the bytes before the first that has one
 abbrev pub clear : ℕ → ℕ
-clear m = trailingZeros 64 m / 8
+clear m = zeros 8 m
 
 -- a byte that has none is of the class
 abbrev pub Shows : Test → (ℕ → Bool) → Type 0
@@ -27,9 +26,9 @@ pub record Sure (class : ℕ → Bool) (x r : ℕ) : Type 0 where
 
 pub sure : (t : Test) {class : ℕ → Bool} → Shows t class → {x f r : ℕ} → f ≡ flags t x → r ≡ clear f → Sure class x r
 sure t s {x} {f} {r} e c = record {
-  most = omega (arith, c, trailing-le 64 f);
+  most = omega (arith, c, zeros-le 8 f);
   all = λ g h w k l.
       let same : f ≡ word (λ j. at-byte (both t flag) (g j)) 0 8 = e ∙ ap (flags t) w ∙ each-byte (both t flag) g h 8 0 in
-      let z = ap (trailingZeros 64) same in
+      let z = ap clear same in
       s (g k) (h k) (ap (λ y. at-byte (both t flag) (g y)) (sym (zero-add k)) ∙ zero-below (λ j. at-byte (both t flag) (g j)) (λ j. byte-lt (both t flag) (g j) (h j)) 8 0 k (omega (arith, l, c, z)));
 }

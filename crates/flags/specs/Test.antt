@@ -16,11 +16,11 @@ abbrev pub rep : ℕ → ℕ → ℕ
 rep c zero = 0
 rep c (suc n) = rep c n * 256 + c
 
--- what a flag, the highest bit of a byte, is made of: the seven bits below it are c or more; the same with the bit of small letters set;
+-- what a flag, the highest bit of a byte, is made of: the seven bits below it are c or more; the same without the bit of small letters;
 -- the byte's own highest bit; a flag; and both, either or none of these
 pub data Test : Type 0 where
   least : ℕ → Test
-  small-least : ℕ → Test
+  capital-least : ℕ → Test
   high : Test
   flag : Test
   both : Test → Test → Test
@@ -30,7 +30,7 @@ pub data Test : Type 0 where
 -- at n bytes as one number
 abbrev pub at-word : Test → ℕ → ℕ → ℕ
 at-word (least c) n x = bitAnd x (rep 127 n) + rep (128 - c) n
-at-word (small-least c) n x = bitOr (bitAnd x (rep 127 n)) (rep 32 n) + rep (128 - c) n
+at-word (capital-least c) n x = bitAnd x (rep 95 n) + rep (128 - c) n
 at-word high n x = x
 at-word flag n x = rep 128 n
 at-word (both s t) n x = bitAnd (at-word s n x) (at-word t n x)
@@ -40,7 +40,7 @@ at-word (none t) n x = bitXor (at-word t n x) (rep 128 n)
 -- at one byte
 abbrev pub at-byte : Test → ℕ → ℕ
 at-byte (least c) b = bitAnd b 127 + (128 - c)
-at-byte (small-least c) b = bitOr (bitAnd b 127) 32 + (128 - c)
+at-byte (capital-least c) b = bitAnd b 95 + (128 - c)
 at-byte high b = b
 at-byte flag b = 128
 at-byte (both s t) b = bitAnd (at-byte s b) (at-byte t b)
@@ -49,7 +49,7 @@ at-byte (none t) b = bitXor (at-byte t b) 128
 
 pub byte-lt : (t : Test) (b : ℕ) → b < 256 → at-byte t b < 256
 byte-lt (least c) b h = omega (arith, and-le-r b 127)
-byte-lt (small-least c) b h = let l : bitOr (bitAnd b 127) 32 < 128 = or-lt 7 (bitAnd b 127) 32 (omega (arith, and-le-r b 127)) (lit< tt) in omega (arith, l)
+byte-lt (capital-least c) b h = omega (arith, and-le-r b 95)
 byte-lt high b h = h
 byte-lt flag b h = lit< tt
 byte-lt (both s t) b h = and-lt 8 (at-byte s b) (at-byte t b) (byte-lt s b h) (byte-lt t b h)
@@ -59,10 +59,7 @@ byte-lt (none t) b h = xor-lt 8 (at-byte t b) 128 (byte-lt t b h) (lit< tt)
 -- one byte more: it is tested by itself
 step : (t : Test) (n x b : ℕ) → b < 256 → at-word t (suc n) (x * 256 + b) ≡ at-word t n x * 256 + at-byte t b
 step (least c) n x b h = let e = and-block 8 x (rep 127 n) b 127 h (lit< tt) in omega (arith, e)
-step (small-least c) n x b h =
-    let e = and-block 8 x (rep 127 n) b 127 h (lit< tt) in
-    let f = ap (λ y. bitOr y (rep 32 n * 256 + 32)) e ∙ or-block 8 (bitAnd x (rep 127 n)) (rep 32 n) (bitAnd b 127) 32 (omega (arith, and-le-r b 127)) (lit< tt) in
-    omega (arith, f)
+step (capital-least c) n x b h = let e = and-block 8 x (rep 95 n) b 95 h (lit< tt) in omega (arith, e)
 step high n x b h = refl
 step flag n x b h = refl
 step (both s t) n x b h =
@@ -80,7 +77,7 @@ each-byte t g h zero k = nothing t
   where
     nothing : (t : Test) → at-word t 0 0 ≡ 0
     nothing (least c) = refl
-    nothing (small-least c) = refl
+    nothing (capital-least c) = refl
     nothing high = refl
     nothing flag = refl
     nothing (both s t) = ap (λ y. bitAnd y (at-word t 0 0)) (nothing s) ∙ ap (bitAnd 0) (nothing t)

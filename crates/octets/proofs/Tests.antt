@@ -1,25 +1,24 @@
 -- The code's tests and the classes agree at every byte, computed: one law for each way through a test.
 -- Assumes nothing.
-use Prim.Native.Nat.{ℕ, _-_, _/_, _%_, _^_, _≤_, _<_}
+use Prim.Native.Nat.{ℕ, _/_, _%_, _^_, _≤_, _<_}
 use native.Mathlib.Omega.{arith}
-use mathlib.Core.Path.{_≡_, refl}
-use mathlib.Core.Bool.{false, _&&_, _||_, not}
+use mathlib.Core.Path.{_≡_, refl, ap, _∙_}
+use mathlib.Core.Bool.{Bool, _&&_, _||_, not}
 use lib.Dec.{eqb, leb, ltb}
 use Rattle.octets.specs.Class.{among, within, isAscii, isBlank, isDigit, isHexDigit, isTarget, isToken, isValue}
 use Rattle.octets.specs.Table.{same, same-from}
 
+abbrev bits-test : ℕ → ℕ → Bool
+bits-test half b = ltb b 128 && eqb ((half / 2 ^ (b % 64)) % 2) 1
+
 module _ (b : ℕ) where
-  pub token-low : b < 64 → eqb ((0x03ff_6cfa_0000_0000 / 2 ^ b) % 2) 1 ≡ isToken b
+  pub token-low : {half : ℕ} → half ≡ 0x03ff_6cfa_0000_0000 → b < 64 → bits-test half b ≡ isToken b
   unfolding isToken isDigit within among
-  token-low = same-from (λ k. eqb ((0x03ff_6cfa_0000_0000 / 2 ^ k) % 2) 1) isToken 0 64 refl b (omega arith)
+  token-low e h = ap (λ x. bits-test x b) e ∙ same-from (bits-test 0x03ff_6cfa_0000_0000) isToken 0 64 refl b (omega arith) h
 
-  pub token-high : 64 ≤ b → b < 128 → eqb ((0x57ff_ffff_c7ff_fffe / 2 ^ (b - 64)) % 2) 1 ≡ isToken b
+  pub token-high : {half : ℕ} → half ≡ 0x57ff_ffff_c7ff_fffe → 64 ≤ b → b < 256 → bits-test half b ≡ isToken b
   unfolding isToken isDigit within among
-  token-high = same-from (λ k. eqb ((0x57ff_ffff_c7ff_fffe / 2 ^ (k - 64)) % 2) 1) isToken 64 64 refl b
-
-  pub token-none : 128 ≤ b → b < 256 → false ≡ isToken b
-  unfolding isToken isDigit within among
-  token-none = same-from (λ k. false) isToken 128 128 refl b
+  token-high e l h = ap (λ x. bits-test x b) e ∙ same-from (bits-test 0x57ff_ffff_c7ff_fffe) isToken 64 192 refl b l h
 
   pub target-test : b < 256 → (ltb 32 b && not (eqb b 127)) ≡ isTarget b
   unfolding isTarget within
@@ -46,4 +45,4 @@ module _ (b : ℕ) where
   ascii-test = same (λ k. ltb k 128) isAscii refl b
 
 -- what proves a test of a class
-pub ruleset tests = (token-low, token-high, token-none, target-test, value-test, blank-test, digit-test, hex-digit-test, ascii-test)
+pub ruleset tests = (token-low, token-high, target-test, value-test, blank-test, digit-test, hex-digit-test, ascii-test)

@@ -10,13 +10,8 @@ const TOKEN_HIGH: u64 = 0x57ff_ffff_c7ff_fffe;
 pub fn is_token(b: u8) -> bool
     ensures { λ r. ⌜ r ≡ isToken b ⌝ }
 {
-    if b < 64 {
-        return (TOKEN_LOW >> b) % 2 == 1;
-    }
-    if b < 128 {
-        return (TOKEN_HIGH >> (b - 64)) % 2 == 1;
-    }
-    false
+    let half = if b < 64 { TOKEN_LOW } else { TOKEN_HIGH };
+    (b < 128) & ((half >> (b % 64)) % 2 == 1)
 }
 
 pub fn is_target(b: u8) -> bool

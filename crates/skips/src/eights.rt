@@ -1,4 +1,4 @@
-// How many of the next eight bytes are surely of a class: none, where fewer than eight are left.
+// How many of the next eight bytes are surely of a class: none, where fewer than eight are left; for values there must be eight.
 ghost use Prim.Native.Nat.{_+_, _≤_, _<_};
 ghost use mathlib.Core.Path.{_≡_};
 ghost use lib.ListN.{length, getD};
@@ -18,17 +18,13 @@ fn load(s: &[u8], i: usize) -> u64
     ensures { λ r. ⌜ r ≡ word (λ k. getD (now (s .entry)) (i + k) 0) 0 8 ⌝ }
 {
     wide(s[i + 0])
-        + 256
-            * (wide(s[i + 1])
-                + 256
-                    * (wide(s[i + 2])
-                        + 256
-                            * (wide(s[i + 3])
-                                + 256
-                                    * (wide(s[i + 4])
-                                        + 256
-                                            * (wide(s[i + 5])
-                                                + 256 * (wide(s[i + 6]) + 256 * wide(s[i + 7])))))))
+        + 0x100 * wide(s[i + 1])
+        + 0x1_0000 * wide(s[i + 2])
+        + 0x100_0000 * wide(s[i + 3])
+        + 0x1_0000_0000 * wide(s[i + 4])
+        + 0x100_0000_0000 * wide(s[i + 5])
+        + 0x1_0000_0000_0000 * wide(s[i + 6])
+        + 0x100_0000_0000_0000 * wide(s[i + 7])
 }
 
 // The same, with what is known of its bytes.
@@ -40,7 +36,7 @@ fn eight(s: &[u8], i: usize) -> u64
 }
 
 pub(crate) fn token(s: &[u8], i: usize) -> usize
-    requires { ⌜ i ≤ length (now s) ⌝ }
+    requires { ⌜ i < length (now s) ⌝ }
     ensures { λ r. ⌜ Ahead isToken (now (s .entry)) i r ⌝ }
 {
     if s.len() - i < 8 {
@@ -50,7 +46,7 @@ pub(crate) fn token(s: &[u8], i: usize) -> usize
 }
 
 pub(crate) fn target(s: &[u8], i: usize) -> usize
-    requires { ⌜ i ≤ length (now s) ⌝ }
+    requires { ⌜ i < length (now s) ⌝ }
     ensures { λ r. ⌜ Ahead isTarget (now (s .entry)) i r ⌝ }
 {
     if s.len() - i < 8 {
@@ -60,17 +56,14 @@ pub(crate) fn target(s: &[u8], i: usize) -> usize
 }
 
 pub(crate) fn value(s: &[u8], i: usize) -> usize
-    requires { ⌜ i ≤ length (now s) ⌝ }
+    requires { ⌜ i + 8 ≤ length (now s) ⌝ }
     ensures { λ r. ⌜ Ahead isValue (now (s .entry)) i r ⌝ }
 {
-    if s.len() - i < 8 {
-        return 0;
-    }
     flags::value(eight(s, i))
 }
 
 pub(crate) fn ascii(s: &[u8], i: usize) -> usize
-    requires { ⌜ i ≤ length (now s) ⌝ }
+    requires { ⌜ i < length (now s) ⌝ }
     ensures { λ r. ⌜ Ahead isAscii (now (s .entry)) i r ⌝ }
 {
     if s.len() - i < 8 {

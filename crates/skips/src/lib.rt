@@ -16,9 +16,6 @@ pub fn skip_token(s: &[u8], at: usize) -> usize
             i += 8;
         } else {
             i += n;
-            if s.len() <= i {
-                return i;
-            }
             if !octets::is_token(s[i]) {
                 return i;
             }
@@ -38,9 +35,6 @@ pub fn skip_target(s: &[u8], at: usize) -> usize
             i += 8;
         } else {
             i += n;
-            if s.len() <= i {
-                return i;
-            }
             if !octets::is_target(s[i]) {
                 return i;
             }
@@ -50,24 +44,38 @@ pub fn skip_target(s: &[u8], at: usize) -> usize
     i
 }
 
+// Most of a head is values: the test for eight bytes being left stands alone in the loop, and the last few have one of their own.
 pub fn skip_value(s: &[u8], at: usize) -> usize
     ensures { λ r. ⌜ Skipped isValue (now (s .entry)) at r ⌝ }
 {
+    if s.len() <= at {
+        return at;
+    }
     let mut i = at;
-    while i < s.len() {
+    while 8 <= s.len() - i {
         let n = eights::value(s, i);
         if n == 8 {
             i += 8;
         } else {
             i += n;
-            if s.len() <= i {
-                return i;
-            }
             if !octets::is_value(s[i]) {
                 return i;
             }
             i += 1;
         }
+    }
+    last_values(s, i)
+}
+
+fn last_values(s: &[u8], at: usize) -> usize
+    ensures { λ r. ⌜ Skipped isValue (now (s .entry)) at r ⌝ }
+{
+    let mut i = at;
+    while i < s.len() {
+        if !octets::is_value(s[i]) {
+            return i;
+        }
+        i += 1;
     }
     i
 }
@@ -95,9 +103,6 @@ pub fn skip_ascii(s: &[u8], at: usize) -> usize
             i += 8;
         } else {
             i += n;
-            if s.len() <= i {
-                return i;
-            }
             if !octets::is_ascii(s[i]) {
                 return i;
             }

@@ -21,6 +21,7 @@ impl fmt::Display for InvalidChunkSize {
 ///
 /// assert_eq!(parse_chunk_size(b"1f;name=value\r\n.."), Ok(Status::Complete((15, 31))));
 /// ```
+#[inline]
 pub fn parse_chunk_size(
     buf: &[u8],
 ) -> core::result::Result<Status<(usize, u64)>, InvalidChunkSize> {

@@ -33,6 +33,7 @@ pub struct ParserConfig {
 
 impl ParserConfig {
     /// Reads as [`Request::parse`] does, with these settings.
+    #[inline]
     pub fn parse_request<'buf>(
         &self,
         request: &mut Request<'_, 'buf>,
@@ -42,6 +43,7 @@ impl ParserConfig {
     }
 
     /// Reads as [`Request::parse_with_uninit_headers`] does, with these settings.
+    #[inline]
     pub fn parse_request_with_uninit_headers<'headers, 'buf>(
         &self,
         request: &mut Request<'headers, 'buf>,
@@ -52,6 +54,7 @@ impl ParserConfig {
     }
 
     /// Reads as [`Response::parse`] does, with these settings.
+    #[inline]
     pub fn parse_response<'buf>(
         &self,
         response: &mut Response<'_, 'buf>,
@@ -65,6 +68,7 @@ impl ParserConfig {
     ///
     /// On complete [`headers`](Response::headers) is the part of that memory which was written;
     /// else it is what it was before.
+    #[inline]
     pub fn parse_response_with_uninit_headers<'headers, 'buf>(
         &self,
         response: &mut Response<'headers, 'buf>,

@@ -17,6 +17,7 @@ use crate::{Header, Result, Status};
 /// let read = parse_headers(b"Date: today\r\n\r\nmore", &mut headers);
 /// assert_eq!(read, Ok(Status::Complete((15, &[date][..]))));
 /// ```
+#[inline]
 pub fn parse_headers<'b: 'h, 'h>(
     src: &'b [u8],
     dst: &'h mut [Header<'b>],

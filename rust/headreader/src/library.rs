@@ -71,6 +71,7 @@ pub struct StatusLine<'buf> {
 }
 
 /// Reads the head of a request.
+#[inline]
 pub fn request<'lent, 'buf>(
     buffer: &'buf [u8],
     slots: Slots<'lent, 'buf>,
@@ -106,6 +107,7 @@ pub fn request<'lent, 'buf>(
 }
 
 /// Reads the head of a response.
+#[inline]
 pub fn response<'lent, 'buf>(
     buffer: &'buf [u8],
     slots: Slots<'lent, 'buf>,
@@ -137,6 +139,7 @@ pub fn response<'lent, 'buf>(
 }
 
 /// Reads headers alone.
+#[inline]
 pub fn headers<'lent, 'buf>(
     buffer: &'buf [u8],
     slots: Slots<'lent, 'buf>,
@@ -156,6 +159,7 @@ pub fn headers<'lent, 'buf>(
 }
 
 /// Reads a chunk size line.
+#[inline]
 pub fn chunk_size(buffer: &[u8]) -> core::result::Result<Status<(usize, u64)>, InvalidChunkSize> {
     let mut out = Out::default();
     // SAFETY: as for a request, but that nothing is lent.

@@ -44,6 +44,7 @@ impl<'headers, 'buf> Request<'headers, 'buf> {
     ///
     /// On complete the list of headers is cut to those read, so a request that is read into again
     /// has no room for more.
+    #[inline]
     pub fn parse(&mut self, buf: &'buf [u8]) -> Result<usize> {
         ParserConfig::default().parse_request(self, buf)
     }
@@ -52,6 +53,7 @@ impl<'headers, 'buf> Request<'headers, 'buf> {
     ///
     /// On complete [`headers`](Request::headers) is the part of that memory which was written; else
     /// it is what it was before.
+    #[inline]
     pub fn parse_with_uninit_headers(
         &mut self,
         buf: &'buf [u8],
@@ -60,6 +62,7 @@ impl<'headers, 'buf> Request<'headers, 'buf> {
         ParserConfig::default().parse_request_with_uninit_headers(self, buf, headers)
     }
 
+    #[inline]
     pub(crate) fn read(&mut self, buffer: &'buf [u8]) -> Result<usize> {
         let Answer {
             result,
@@ -74,6 +77,7 @@ impl<'headers, 'buf> Request<'headers, 'buf> {
         result
     }
 
+    #[inline]
     pub(crate) fn read_into(
         &mut self,
         buffer: &'buf [u8],

@@ -35,10 +35,12 @@ impl<'headers, 'buf> Response<'headers, 'buf> {
     ///
     /// On complete the list of headers is cut to those read, so a response that is read into again
     /// has no room for more.
+    #[inline]
     pub fn parse(&mut self, buf: &'buf [u8]) -> Result<usize> {
         ParserConfig::default().parse_response(self, buf)
     }
 
+    #[inline]
     pub(crate) fn read(&mut self, buffer: &'buf [u8]) -> Result<usize> {
         let Answer {
             result,
@@ -53,6 +55,7 @@ impl<'headers, 'buf> Response<'headers, 'buf> {
         result
     }
 
+    #[inline]
     pub(crate) fn read_into(
         &mut self,
         buffer: &'buf [u8],

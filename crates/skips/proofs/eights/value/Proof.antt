@@ -1,9 +1,9 @@
--- `skips::eights::value` meets its contract: there are fewer than eight bytes, or the eight as one number tell how many are of the class.
+-- `skips::eights::value` meets its contract: the eight bytes as one number tell how many are of the class.
 -- Assumes nothing.
 use borrow.Author.Needs.{needs}
-use Rattle.skips.specs.Ahead.{ahead-none, ahead-eight}
+use Rattle.skips.specs.Ahead.{ahead-eight}
 use Rattle.skips.proofs.eights.value.Statement.{statement}
 use Rattle.skips.proofs.eights.value.Tie as tie
 
 pub value-spec : {M : Type 1} → statement M
-value-spec = tie.close (tie.spec (λ c. search needs) (λ c. search (needs, ahead-none)) (λ c κs. search needs) (λ c κs. search needs) (λ c. ahead-eight (c .value .ensures) (c .before .eight .ensures) (search needs)))
+value-spec = tie.close (tie.spec (λ c κs. search needs) (λ c κs. search needs) (λ c. ahead-eight (c .value .ensures) (c .before .eight .ensures) (search needs)))
