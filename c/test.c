@@ -34,10 +34,19 @@ struct expected {
     uint64_t slots[NUMBERS];
 };
 
+/* All bits without a meaning. */
+#define OTHER_BITS (~HR_ASCII_TARGETS)
+
+/* Every setting, with and without such bits. */
+static const uint32_t SETTINGS[] = {0, OTHER_BITS, HR_ASCII_TARGETS, HR_ASCII_TARGETS | OTHER_BITS};
+
+#define SETTING_COUNT (sizeof SETTINGS / sizeof SETTINGS[0])
+
 /* Rows that are longer than what is tested at once. */
 #define TEN "aaaaaaaaaa"
 #define SEVENTY TEN TEN TEN TEN TEN TEN TEN
 
+/* No target here has a byte from 0x80 on, so every setting leads to the same answers. */
 static const struct expected CASES[] = {
     {REQUEST, "GET / HTTP/1.1\r\nHost: a\r\nX:\r\n\r\nbody", HR_COMPLETE,
      {31, 2, REQUEST_LINE, 0, 3, 4, 1, 1}, {16, 4, 22, 1, 25, 1, 27, 0}},
@@ -46,6 +55,9 @@ static const struct expected CASES[] = {
     {REQUEST, " ", HR_TOKEN, {0}, {0}},
     {REQUEST, "GET / HTTP/2", HR_VERSION, {0, 0, HR_KNOWS_METHOD | HR_KNOWS_TARGET, 0, 3, 4, 1, 0}, {0}},
     {REQUEST, "GET / HTTP/1.1\r\n\rA", HR_NEW_LINE, {0, 0, REQUEST_LINE, 0, 3, 4, 1, 1}, {0}},
+    {REQUEST, "GET /\177", HR_TOKEN, {0, 0, HR_KNOWS_METHOD, 0, 3, 0, 0, 0}, {0}},
+    {REQUEST, "GE\303\251 /", HR_TOKEN, {0}, {0}},
+    {REQUEST, "GET /!~ HTTP/1.1\nA: \303\251\n\n", HR_COMPLETE, {24, 1, REQUEST_LINE, 0, 3, 4, 3, 1}, {17, 1, 20, 2}},
     {RESPONSE, "HTTP/1.1 200 OK\r\nA: b\r\n\r\n", HR_COMPLETE, {25, 1, STATUS_LINE, 1, 200, 13, 2, 0}, {17, 1, 20, 1}},
     {REQUEST, SEVENTY " /" SEVENTY " HTTP/1.1\r\n" SEVENTY ": " SEVENTY "\r\n\r\n", HR_COMPLETE,
      {299, 1, REQUEST_LINE, 0, 70, 71, 71, 1}, {153, 70, 225, 70}},
@@ -53,6 +65,7 @@ static const struct expected CASES[] = {
      {230, 1, STATUS_LINE, 1, 200, 13, 70, 0}, {85, 70, 156, 70}},
     {RESPONSE, "HTTP/1.0 204\r\n\r\n", HR_COMPLETE, {16, 0, STATUS_LINE, 0, 204, 0, 0, 0}, {0}},
     {RESPONSE, "HTTP/1.1 204", HR_INCOMPLETE, {0, 0, HR_KNOWS_VERSION | HR_KNOWS_CODE, 1, 204, 0, 0, 0}, {0}},
+    {RESPONSE, "HTTP/1.1 200 caf\303\251\n\n", HR_COMPLETE, {20, 0, STATUS_LINE, 1, 200, 0, 0, 0}, {0}},
     {RESPONSE, "HTTP/1.1 x", HR_STATUS, {0, 0, HR_KNOWS_VERSION, 1, 0, 0, 0, 0}, {0}},
     {HEADERS, "A: b\r\nC: d\r\n\r\n", HR_COMPLETE, {14, 2, 0, 0, 0, 0, 0, 0}, {0, 1, 3, 1, 6, 1, 9, 1}},
     {HEADERS, "A b\n", HR_HEADER_NAME, {0}, {0}},
@@ -67,6 +80,18 @@ static const struct expected CASES[] = {
 
 #define CASE_COUNT (sizeof CASES / sizeof CASES[0])
 
+/* Targets with a byte from 0x80 on, as they are read unless they must be ASCII. */
+static const struct expected BEYOND_ASCII[] = {
+    {REQUEST, "GET /caf\303\251 HTTP/1.1\r\nA: b\r\n\r\n", HR_COMPLETE, {29, 1, REQUEST_LINE, 0, 3, 4, 6, 1}, {21, 1, 24, 1}},
+    {REQUEST, "\r\n\nPUT \360\237\230\200 HTTP/1.0\n", HR_INCOMPLETE, {0, 0, REQUEST_LINE, 3, 3, 7, 4, 0}, {0}},
+    {REQUEST, "M-SEARCH /" SEVENTY "\303\251 HTTP/1.1\n\n", HR_COMPLETE, {93, 0, REQUEST_LINE, 0, 8, 9, 73, 1}, {0}},
+    {REQUEST, "GET /\377 HTTP/1.1\r\n\r\n", HR_TOKEN, {0, 0, HR_KNOWS_METHOD, 0, 3, 0, 0, 0}, {0}},
+    {REQUEST, "GET /\303\t", HR_TOKEN, {0, 0, HR_KNOWS_METHOD, 0, 3, 0, 0, 0}, {0}},
+    {REQUEST, "POST \200", HR_INCOMPLETE, {0, 0, HR_KNOWS_METHOD, 0, 4, 0, 0, 0}, {0}},
+};
+
+#define BEYOND_ASCII_COUNT (sizeof BEYOND_ASCII / sizeof BEYOND_ASCII[0])
+
 static int passed, failed;
 
 static void count(bool good, const char *what, const struct expected *expected) {
@@ -78,7 +103,7 @@ static void count(bool good, const char *what, const struct expected *expected) 
     printf("wrong: %s, on \"%s\"\n", what, expected->input);
 }
 
-static struct answer ask(enum call call, const uint8_t *buf, size_t len) {
+static struct answer ask(enum call call, const uint8_t *buf, size_t len, uint32_t settings) {
     struct answer answer;
     for (size_t i = 0; i < sizeof answer.out / sizeof answer.out[0]; i++)
         answer.out[i] = UNTOUCHED;
@@ -88,10 +113,10 @@ static struct answer ask(enum call call, const uint8_t *buf, size_t len) {
     uint64_t *slots = answer.slots + 1;
     switch (call) {
     case REQUEST:
-        answer.status = hr_request(buf, len, slots, NUMBERS, out, 0);
+        answer.status = hr_request(buf, len, slots, NUMBERS, out, settings);
         break;
     case RESPONSE:
-        answer.status = hr_response(buf, len, slots, NUMBERS, out, 0);
+        answer.status = hr_response(buf, len, slots, NUMBERS, out, settings);
         break;
     case HEADERS:
         answer.status = hr_headers(buf, len, slots, NUMBERS, out);
@@ -121,26 +146,69 @@ static bool same(const struct answer *one, const struct answer *other) {
 }
 
 /* In memory of exactly its length, which AddressSanitizer watches. */
-static void test_allocated(const struct expected *expected) {
+static void test_allocated(const struct expected *expected, uint32_t settings) {
     size_t len = strlen(expected->input);
     uint8_t *buf = malloc(len ? len : 1);
     if (!buf)
         abort();
     memcpy(buf, expected->input, len);
-    struct answer answer = ask(expected->call, buf, len);
+    struct answer answer = ask(expected->call, buf, len, settings);
     count(is(&answer, expected), "an allocated input", expected);
     free(buf);
 }
 
 /* Every start of the input, right before a page that can't be read: the library itself is not instrumented. */
-static void test_before_a_wall(const struct expected *expected, uint8_t *wall) {
+static void test_before_a_wall(const struct expected *expected, uint32_t settings, uint8_t *wall) {
     size_t len = strlen(expected->input);
     for (size_t part = 0; part <= len; part++) {
         uint8_t *buf = wall - part;
         memcpy(buf, expected->input, part);
-        struct answer answer = ask(expected->call, buf, part);
-        struct answer again = ask(expected->call, (const uint8_t *)expected->input, part);
+        struct answer answer = ask(expected->call, buf, part, settings);
+        struct answer again = ask(expected->call, (const uint8_t *)expected->input, part, settings);
         count(same(&answer, &again), "an input before a wall", expected);
+    }
+}
+
+static bool in_method(unsigned byte) {
+    return byte == ' ' || (byte > ' ' && byte < 0x7F && !strchr("\"(),/:;<=>?@[\\]{}", (int)byte));
+}
+
+static bool in_visible_target(unsigned byte) { return ' ' <= byte && byte <= 0x7E; }
+
+static bool in_target(unsigned byte) { return in_visible_target(byte) || byte >= 0x80; }
+
+static bool in_text(unsigned byte) { return in_target(byte) || byte == '\t' || byte == '\r' || byte == '\n'; }
+
+/* What a row stands behind, the error of a byte that may neither stand in it nor end it, and those that may. */
+static const struct {
+    struct expected wrong;
+    uint32_t settings;
+    bool (*goes_on)(unsigned byte);
+} ROWS[] = {
+    {{REQUEST, "", HR_TOKEN, {0}, {0}}, 0, in_method},
+    {{REQUEST, "A ", HR_TOKEN, {0}, {0}}, 0, in_target},
+    {{REQUEST, "A ", HR_TOKEN, {0}, {0}}, HR_ASCII_TARGETS, in_visible_target},
+    {{HEADERS, "A:", HR_HEADER_VALUE, {0}, {0}}, 0, in_text},
+    {{RESPONSE, "HTTP/1.1 200 ", HR_STATUS, {0}, {0}}, 0, in_text},
+};
+
+#define ROW_COUNT (sizeof ROWS / sizeof ROWS[0])
+
+/* Eight bytes are tested at once: each byte as the last of a row of every length, at every alignment, right before the page. */
+static void test_rows_before_a_wall(size_t row, uint8_t *wall) {
+    const struct expected *wrong = &ROWS[row].wrong;
+    size_t start = strlen(wrong->input);
+    for (size_t length = 1; length <= 65; length++) {
+        uint8_t *buf = wall - (start + length + 1);
+        memcpy(buf, wrong->input, start);
+        memset(buf + start, 'a', length);
+        bool good = true;
+        for (unsigned byte = 0; byte < 256; byte++) {
+            wall[-1] = (uint8_t)byte;
+            struct answer answer = ask(wrong->call, buf, start + length + 1, ROWS[row].settings);
+            good = good && answer.status == (ROWS[row].goes_on(byte) ? HR_INCOMPLETE : wrong->status);
+        }
+        count(good, "a row before a wall", wrong);
     }
 }
 
@@ -159,15 +227,65 @@ static void test_few_slots(void) {
     }
 }
 
+static size_t first_beyond_ascii(const char *input) {
+    size_t at = 0;
+    while ((uint8_t)input[at] < 0x80)
+        at++;
+    return at;
+}
+
+/* Up to the byte that is not ASCII nothing changes; from there on the target is refused, whatever follows. */
+static void test_refused_at_once(const struct expected *beyond) {
+    const uint8_t *buf = (const uint8_t *)beyond->input;
+    struct expected refused = {
+        REQUEST, beyond->input, HR_TOKEN, {0, 0, HR_KNOWS_METHOD, beyond->out[3], beyond->out[4], 0, 0, 0}, {0}};
+    size_t first = first_beyond_ascii(beyond->input);
+    for (size_t part = 0; part <= strlen(beyond->input); part++) {
+        struct answer off = ask(REQUEST, buf, part, OTHER_BITS);
+        struct answer on = ask(REQUEST, buf, part, HR_ASCII_TARGETS | OTHER_BITS);
+        count(part <= first ? same(&on, &off) : is(&on, &refused), "a target that must be ASCII", beyond);
+    }
+}
+
+/* Each byte alone as the last of a target: a space ends it, and those that may stand in it leave it open. */
+static void test_each_byte_of_a_target(void) {
+    static const struct expected OPEN = {REQUEST, "GET /", HR_INCOMPLETE, {0, 0, HR_KNOWS_METHOD, 0, 3, 0, 0, 0}, {0}};
+    static const struct expected WRONG = {REQUEST, "GET /", HR_TOKEN, {0, 0, HR_KNOWS_METHOD, 0, 3, 0, 0, 0}, {0}};
+    static const struct expected ENDED = {
+        REQUEST, "GET / ", HR_INCOMPLETE, {0, 0, HR_KNOWS_METHOD | HR_KNOWS_TARGET, 0, 3, 4, 1, 0}, {0}};
+    for (unsigned byte = 0; byte < 256; byte++) {
+        uint8_t input[] = {'G', 'E', 'T', ' ', '/', (uint8_t)byte};
+        bool visible = 0x21 <= byte && byte <= 0x7E;
+        const struct expected *right = byte == ' ' ? &ENDED : visible ? &OPEN : &WRONG;
+        struct answer on = ask(REQUEST, input, sizeof input, HR_ASCII_TARGETS);
+        count(is(&on, right), "a byte of a target that must be ASCII", right);
+        const struct expected *usual = byte >= 0x80 ? &OPEN : right;
+        struct answer off = ask(REQUEST, input, sizeof input, 0);
+        count(is(&off, usual), "a byte of a target", usual);
+    }
+}
+
+static void test_with_settings(const struct expected *expected, uint32_t settings, uint8_t *wall) {
+    test_allocated(expected, settings);
+    test_before_a_wall(expected, settings, wall);
+}
+
 int main(void) {
     size_t page = (size_t)sysconf(_SC_PAGESIZE);
     uint8_t *pages = mmap(NULL, 2 * page, PROT_READ | PROT_WRITE, MAP_PRIVATE | MAP_ANONYMOUS, -1, 0);
     if (pages == MAP_FAILED || mprotect(pages + page, page, PROT_NONE) != 0)
         abort();
-    for (size_t i = 0; i < CASE_COUNT; i++) {
-        test_allocated(&CASES[i]);
-        test_before_a_wall(&CASES[i], pages + page);
+    for (size_t i = 0; i < CASE_COUNT * SETTING_COUNT; i++)
+        test_with_settings(&CASES[i / SETTING_COUNT], SETTINGS[i % SETTING_COUNT], pages + page);
+    for (size_t i = 0; i < BEYOND_ASCII_COUNT; i++) {
+        test_with_settings(&BEYOND_ASCII[i], 0, pages + page);
+        test_with_settings(&BEYOND_ASCII[i], OTHER_BITS, pages + page);
+        test_before_a_wall(&BEYOND_ASCII[i], HR_ASCII_TARGETS, pages + page);
+        test_refused_at_once(&BEYOND_ASCII[i]);
     }
+    for (size_t i = 0; i < ROW_COUNT; i++)
+        test_rows_before_a_wall(i, pages + page);
+    test_each_byte_of_a_target();
     test_few_slots();
     printf("%d passed, %d failed\n", passed, failed);
     return failed != 0;

@@ -1,6 +1,6 @@
 /*
  * Headreader reads the heads of HTTP/1 messages: requests, responses, headers alone, and chunk size lines.
- * It answers as httparse 1.10.1 does with default settings, and is proved: see docs/PROVED.md.
+ * It answers as httparse 1.10.1 does with default settings unless a setting says otherwise, and is proved: see docs/PROVED.md.
  *
  * Each function reads buf[0] to buf[len - 1] and keeps nothing. It writes all eight numbers of out, and of slots the first
  * out[1] slots, four numbers each: where a header's name is, the name's length, where its value is, the value's length. All other
@@ -39,15 +39,23 @@ extern "C" {
 #define HR_KNOWS_REASON 16u
 
 /*
+ * The bits of settings; with none of them httparse's defaults hold, and a bit without a meaning has no effect.
+ * HR_ASCII_TARGETS: a request's target has the bytes 0x21 to 0x7E only, and any other in it is HR_TOKEN at once, whatever follows;
+ * without it bytes from 0x80 on may stand there too, and a target that is no UTF-8 is refused at the space behind it. A response has
+ * no target, so the bit has no effect on it.
+ */
+#define HR_ASCII_TARGETS 128u
+
+/*
  * A request. out: 0 the position behind the head, and 0 where it is not complete; 1 how many headers were given; 2 what is known;
  * 3, 4 the method's offset and length; 5, 6 the target's; 7 the minor version. What is not known is 0. slots_len counts numbers.
- * settings is 0: httparse's settings come one by one, each with its bit, and no bit has an effect yet.
+ * settings is 0, or HR_ASCII_TARGETS: httparse's own settings come one by one, each with its bit.
  */
 uint32_t hr_request(const uint8_t *buf, size_t len, uint64_t *slots, size_t slots_len, uint64_t out[8], uint32_t settings);
 
 /*
  * A response. out: 0, 1, 2 as above; 3 the minor version; 4 the code; 5, 6 the reason's offset and length, 0 and 0 where it is
- * empty; 7 is 0. settings as above.
+ * empty; 7 is 0. settings as above, but that no bit has an effect on a response yet.
  */
 uint32_t hr_response(const uint8_t *buf, size_t len, uint64_t *slots, size_t slots_len, uint64_t out[8], uint32_t settings);
 

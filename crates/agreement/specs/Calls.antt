@@ -9,7 +9,7 @@ use Rattle.reader.specs.Tests.{never}
 use Rattle.reader.specs.Seq.{first}
 use Rattle.reader.specs.Answer.{got, short, bad, answered, bad-stays, lapwise}
 use Rattle.reader.specs.Branch.{fresh}
-use Rattle.rules.specs.Rules.{default}
+use Rattle.rules.specs.Rules.{Rules, default}
 use Rattle.grammar.specs.Message.{header-block, request-line, request-head, status-line, response-head}
 use Rattle.parts.specs.declared.Error.{Error}
 use Rattle.parts.specs.declared.Error.the-variants.{TooManyHeaders}
@@ -35,7 +35,7 @@ use Rattle.agreement.specs.Fields.{fieldsOf, block-derived, block-read, 
 use Rattle.agreement.specs.FieldLine.{HeaderIn}
 use Rattle.agreement.specs.Inside.{request-line-in, status-line-in}
 use Rattle.agreement.specs.Full.{request-refuses, status-refuses, block-full}
-use Rattle.agreement.specs.Starts.{default-fixed}
+use Rattle.agreement.specs.Starts.{Fixed}
 use Rattle.agreement.specs.Known.{RequestSays, StatusSays, RequestInside, StatusInside}
 use Rattle.agreement.specs.Request.{request-derived, request-read}
 use Rattle.agreement.specs.Response.{response-derived, response-read}
@@ -43,27 +43,27 @@ use Rattle.agreement.specs.Exactly.{Found, Exactly, exactly, Lies, given
 use Rattle.agreement.specs.Promises.{HeadPromise, block-alone, says-nothing, lies-nowhere}
 use Rattle.agreement.specs.Kept.{kept}
 
-module _ (n : ℕ) where
-  pub request-exactly : Exactly (request-head default) RequestSays n (request default n)
+module _ {r : Rules} (fixed : Fixed r) (n : ℕ) where
+  pub request-exactly : Exactly (request-head r) RequestSays n (request r n)
   unfolding request
   request-exactly =
-      exactly default n (requests.requestLineStep default) requests.lineKnown (first start) (exact-request-line default) (request-refuses default) (request-line default) RequestSays
-      (λ z w rest k h g. request-derived default-fixed h g) (λ z e l c rest g h a b d. request-read default-fixed h a b d)
+      exactly r n (requests.requestLineStep r) requests.lineKnown (first start) (exact-request-line r) (request-refuses r) (request-line r) RequestSays
+      (λ z w rest k h g. request-derived fixed h g) (λ z e l c rest g h a b d. request-read fixed h a b d)
 
-  pub response-exactly : Exactly (response-head default) StatusSays n (response default n)
+  pub response-exactly : Exactly (response-head r) StatusSays n (response r n)
   unfolding response
   response-exactly =
-      exactly default n (statuses.statusLineStep default) statuses.lineKnown (first start) (exact-status-line default) (status-refuses default) (status-line default) StatusSays
-      (λ z w rest k h g. response-derived default-fixed h g) (λ z e l c rest g h a b d. response-read default-fixed h a b d)
+      exactly r n (statuses.statusLineStep r) statuses.lineKnown (first start) (exact-status-line r) (status-refuses r) (status-line r) StatusSays
+      (λ z w rest k h g. response-derived fixed h g) (λ z e l c rest g h a b d. response-read fixed h a b d)
 
-module _ (n : ℕ) where
-  request-lies : Lies RequestInside (request default n)
+module _ (r : Rules) (n : ℕ) where
+  request-lies : Lies (RequestInside r) (request r n)
   unfolding request
-  request-lies = head-lies default n (requests.requestLineStep default) requests.lineKnown (first start) RequestInside (request-line-in default)
+  request-lies = head-lies r n (requests.requestLineStep r) requests.lineKnown (first start) (RequestInside r) (request-line-in r)
 
-  response-lies : Lies StatusInside (response default n)
+  response-lies : Lies StatusInside (response r n)
   unfolding response
-  response-lies = head-lies default n (statuses.statusLineStep default) statuses.lineKnown (first start) StatusInside (status-line-in default)
+  response-lies = head-lies r n (statuses.statusLineStep r) statuses.lineKnown (first start) StatusInside (status-line-in r)
 
 -- the answer of a block as that of a head with no start line
 abbrev pub alone : Blocks → Heads (Unit {0})
@@ -117,12 +117,12 @@ module _ (n : ℕ) where
 headers-lie : (n : ℕ) → Lies lies-nowhere (headersOf n)
 headers-lie n = record { line = λ z. tt; fields = λ z. subst (Each (HeaderIn (length z))) (sym (given-over tt (block default n [] z 0))) (fields-in z default n [] 0 tt); are = λ z. subst (Each (HeaderIs z)) (sym (given-over tt (block default n [] z 0))) (fields-are z default n [] 0 tt) }
 
-module _ {s old : List ℕ} {end : Passed} {count : ℕ} {new : List ℕ} where
-  pub request-promise : {line : RequestLine} → Told (request default (length old / 4) s) end line count old new → HeadPromise (request-head default) RequestSays RequestInside s old end line count new
-  request-promise T = kept (request-exactly (length old / 4)) (request-lies (length old / 4)) T
+module _ {r : Rules} (fixed : Fixed r) {s old : List ℕ} {end : Passed} {count : ℕ} {new : List ℕ} where
+  pub request-promise : {line : RequestLine} → Told (request r (length old / 4) s) end line count old new → HeadPromise (request-head r) RequestSays (RequestInside r) s old end line count new
+  request-promise T = kept (request-exactly fixed (length old / 4)) (request-lies r (length old / 4)) T
 
-  pub response-promise : {line : StatusLine} → Told (response default (length old / 4) s) end line count old new → HeadPromise (response-head default) StatusSays StatusInside s old end line count new
-  response-promise T = kept (response-exactly (length old / 4)) (response-lies (length old / 4)) T
+  pub response-promise : {line : StatusLine} → Told (response r (length old / 4) s) end line count old new → HeadPromise (response-head r) StatusSays StatusInside s old end line count new
+  response-promise T = kept (response-exactly fixed (length old / 4)) (response-lies r (length old / 4)) T
 
 tell-alone : (end : Passed) (hs : List Header) → tell end (tt, hs) ≡ alone (blocks.tell end hs)
 tell-alone (At q) hs = refl

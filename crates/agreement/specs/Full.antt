@@ -16,7 +16,7 @@ use Rattle.reader.specs.Answer.{bad, answered-bad, lapwise}
 use Rattle.reader.specs.Chain.{part}
 use Rattle.reader.specs.Refusals.{Refusal, Refuses, refused-is, passes, refuses-judged, refuses-seq, refuses-branch, refuses-loop}
 use Rattle.reader.specs.Tests.{split, never}
-use Rattle.octets.specs.Class.{isDigit, isBlank, isToken, isTarget, isValue}
+use Rattle.octets.specs.Class.{isDigit, isBlank, isToken, isValue}
 use Rattle.utf8.specs.Reader.{whole}
 use Rattle.rules.specs.Rules.{Rules}
 use Rattle.parts.specs.declared.Error.{Error}
@@ -24,7 +24,7 @@ use Rattle.parts.specs.declared.Error.the-variants.{HeaderName, HeaderValue, Ne
 use Rattle.parts.specs.LineEnd.{begin, cr, lineEndStep}
 use Rattle.parts.specs.EmptyLines.{start, cr as behind-cr, emptyLinesStep}
 use Rattle.words.specs.Word.{none, some, wordStep}
-use Rattle.words.specs.Target.{targetStep}
+use Rattle.words.specs.Target.{targetByte, targetStep}
 use Rattle.words.specs.Target as targets
 use Rattle.versions.specs.Version.{name, versionStep}
 use Rattle.spaces.specs.Space.{spaceStep, behindCodeStep}
@@ -76,9 +76,9 @@ word-refuses : (class : ℕ → Bool) (stop : ℕ) (x : Error) → Ordinary x �
 word-refuses class stop x o none p b = split (Refusal Ordinary) (class b) (λ _. tt) (λ _. o)
 word-refuses class stop x o (some a) p b = split (Refusal Ordinary) (class b) (λ _. tt) (λ _. split (Refusal Ordinary) (eqb b stop) (λ _. tt) (λ _. o))
 
-target-refuses : Refuses Ordinary targetStep
-target-refuses targets.none p b = split (Refusal Ordinary) (isTarget b) (λ _. tt) (λ _. token-ordinary)
-target-refuses (targets.some a u) p b = split (Refusal Ordinary) (isTarget b) (λ _. tt) (λ _. split (Refusal Ordinary) (eqb b 32) (λ _. split (Refusal Ordinary) (whole u) (λ _. tt) (λ _. token-ordinary)) (λ _. token-ordinary))
+target-refuses : (class : ℕ → Bool) → Refuses Ordinary (targetStep class)
+target-refuses class targets.none p b = split (Refusal Ordinary) (class b) (λ _. tt) (λ _. token-ordinary)
+target-refuses class (targets.some a u) p b = split (Refusal Ordinary) (class b) (λ _. tt) (λ _. split (Refusal Ordinary) (eqb b 32) (λ _. split (Refusal Ordinary) (whole u) (λ _. tt) (λ _. token-ordinary)) (λ _. token-ordinary))
 
 version-refuses : Refuses Ordinary versionStep
 version-refuses [] p b = split (Refusal Ordinary) (eqb b 48) (λ _. tt) (λ _. split (Refusal Ordinary) (eqb b 49) (λ _. tt) (λ _. version-ordinary))
@@ -138,7 +138,7 @@ pub request-refuses : (r : Rules) → Refuses OrdinaryLine (requests.requestLine
 request-refuses r =
     refuses-seq OrdinaryLine (part requests.unread (λ _. requests.unread) (emptyLinesStep r)) (λ _. first none) (requests.methodOn r) (refuses-part requests.unread (λ _. requests.unread) (emptyLinesStep r) (empties-refuse r)) (λ k.
     refuses-seq OrdinaryLine (part k (requests.withMethod k) (wordStep isToken 32 Token)) (λ _. first targets.none) (requests.targetOn r) (refuses-part k (requests.withMethod k) (wordStep isToken 32 Token) (word-refuses isToken 32 Token token-ordinary)) (λ k.
-    refuses-seq OrdinaryLine (part k (requests.withTarget k) targetStep) (λ _. first name) (requests.versionOn r) (refuses-part k (requests.withTarget k) targetStep target-refuses) (λ k.
+    refuses-seq OrdinaryLine (part k (requests.withTarget k) (targetStep (targetByte (r .any-target)))) (λ _. first name) (requests.versionOn r) (refuses-part k (requests.withTarget k) (targetStep (targetByte (r .any-target))) (target-refuses (targetByte (r .any-target)))) (λ k.
     refuses-seq OrdinaryLine (part k (requests.withVersion k) versionStep) (λ _. begin) (requests.endStep r) (refuses-part k (requests.withVersion k) versionStep version-refuses) (λ k.
     refuses-part k (λ _. k) (lineEndStep r NewLine) (end-refuses r NewLine line-ordinary)))))
 

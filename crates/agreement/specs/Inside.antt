@@ -13,7 +13,7 @@ use Rattle.reader.specs.Tests.{never}
 use Rattle.exact.specs.Exact.{Relation, Exact}
 use Rattle.octets.specs.Class.{isToken}
 use Rattle.octets.specs.Outside.{space-no-token}
-use Rattle.rules.specs.Rules.{Rules, default}
+use Rattle.rules.specs.Rules.{Rules}
 use Rattle.grammar.specs.Rows.{Many, none}
 use Rattle.grammar.specs.Message.{method, request-target, ascii-text}
 use Rattle.parts.specs.declared.Error.{Error}
@@ -23,7 +23,7 @@ use Rattle.parts.specs.Answers.{piece}
 use Rattle.parts.specs.LineEnd.{lineEnd}
 use Rattle.parts.specs.EmptyLines.{emptyLines}
 use Rattle.words.specs.Word.{word}
-use Rattle.words.specs.Target.{target}
+use Rattle.words.specs.Target.{targetByte, target, space-no-target-byte}
 use Rattle.versions.specs.Version.{version}
 use Rattle.spaces.specs.Space.{space, behindCode}
 use Rattle.status.specs.Code.{code}
@@ -37,7 +37,7 @@ use Rattle.leaves.specs.Target.{Targeted, exact-target}
 use Rattle.leaves.specs.Reason.{Reasoned, in-ascii, obsolete, exact-reason}
 use Rattle.agreement.specs.Places.{held, at-drop, at-as, at-first, held-at}
 use Rattle.agreement.specs.Rows.{many-as, tokens}
-use Rattle.agreement.specs.Starts.{default-fixed, target-derived, ascii-is}
+use Rattle.agreement.specs.Starts.{target-derived, ascii-is}
 use Rattle.agreement.specs.Known.{RequestInside, StatusInside}
 
 -- a piece that an exact machine gives lies in the input and holds such bytes, where its relation says that it does so in what was read
@@ -55,8 +55,8 @@ module _ {S : Type 0} {m : Step S Piece Error} {s : S} {G : Relation Piece} (M :
 word-such : (p : ℕ) (w : List ℕ) (a : Piece) (rest : List ℕ) → Worded isToken 32 p w a rest → (v u : List ℕ) × (w ≡ v ++ u) × (a ≡ piece p (p + length v)) × method v × (1 ≤ length w + length rest)
 word-such p w a rest K = (K .v, 32 ∷ [], K .whole, K .place, tokens (K .kind), omega (arith, ap length (K .whole) ∙ length-append (K .v) (32 ∷ [])))
 
-target-such : (p : ℕ) (w : List ℕ) (a : Piece) (rest : List ℕ) → Targeted p w a rest → (v u : List ℕ) × (w ≡ v ++ u) × (a ≡ piece p (p + length v)) × request-target default v × (1 ≤ length w + length rest)
-target-such p w a rest K = (K .v, 32 ∷ [], K .line, K .place, target-derived default-fixed (K .kind) (K .text), omega (arith, ap length (K .line) ∙ length-append (K .v) (32 ∷ [])))
+target-such : (r : Rules) (p : ℕ) (w : List ℕ) (a : Piece) (rest : List ℕ) → Targeted (targetByte (r .any-target)) p w a rest → (v u : List ℕ) × (w ≡ v ++ u) × (a ≡ piece p (p + length v)) × request-target r v × (1 ≤ length w + length rest)
+target-such r p w a rest K = (K .v, 32 ∷ [], K .line, K .place, target-derived (K .kind) (K .text), omega (arith, ap length (K .line) ∙ length-append (K .v) (32 ∷ [])))
 
 reason-such : (p : ℕ) (w : List ℕ) (a : Piece) (rest : List ℕ) → Reasoned p w a rest → (v u : List ℕ) × (w ≡ v ++ u) × (a ≡ piece p (p + length v)) × Many ascii-text v × (1 ≤ length w + length rest)
 reason-such p w a rest (in-ascii k s) = (w, [], sym (append-nil w), refl, many-as (λ b. ascii-is) k, omega (arith, ap length (s .whole)))
@@ -64,7 +64,7 @@ reason-such p w a rest (obsolete k o l s) = let n : 0 ≡ p + 0 - p = omega arit
 
 module _ (r : Rules) (z : List ℕ) where
   abbrev In : RequestLine → Type 0
-  In = RequestInside z
+  In = RequestInside r z
 
   end-in : (k : RequestLine) (q : ℕ) → In k → In (knownOf (requests.fromEnd r z k q))
   end-in k q h = last-holds In k (λ _. k) h (lineEnd r NewLine z q) (λ x i e. h)
@@ -73,7 +73,7 @@ module _ (r : Rules) (z : List ℕ) where
   version-in k q h = chain-holds In k (requests.withVersion k) h (requests.fromEnd r z) (version z q) (λ v i e. end-in (requests.withVersion k v) i (record { method = h .method; target = h .target }))
 
   target-in : (k : RequestLine) (q : ℕ) → In k → In (knownOf (requests.fromTarget r z k q))
-  target-in k q h = chain-holds In k (requests.withTarget k) h (requests.fromVersion r z) (target z q) (λ t i e. version-in (requests.withTarget k t) i (record { method = h .method; target = piece-in exact-target (request-target default) target-such z q t i e }))
+  target-in k q h = chain-holds In k (requests.withTarget k) h (requests.fromVersion r z) (target (targetByte (r .any-target)) z q) (λ t i e. version-in (requests.withTarget k t) i (record { method = h .method; target = piece-in (exact-target (targetByte (r .any-target)) (space-no-target-byte (r .any-target))) (request-target r) (target-such r) z q t i e }))
 
   method-in : (k : RequestLine) (q : ℕ) → In k → In (knownOf (requests.fromMethod r z k q))
   method-in k q h = chain-holds In k (requests.withMethod k) h (requests.fromTarget r z) (word isToken 32 Token z q) (λ m i e. target-in (requests.withMethod k m) i (record { method = piece-in (exact-word isToken 32 Token space-no-token) method word-such z q m i e; target = h .target }))

@@ -4,7 +4,7 @@ use Prim.Native.Nat.{ℕ, zero, suc, _+_, _≤_}
 use mathlib.Core.Path.{_≡_}
 use mathlib.Core.List.{List, [], _∷_}
 use lib.ListN.{length, take, drop, getD}
-use Rattle.rules.specs.Rules.{default}
+use Rattle.rules.specs.Rules.{Rules}
 use Rattle.grammar.specs.Rows.{Many}
 use Rattle.grammar.specs.Fields.{field-name, field-value, Field}
 use Rattle.grammar.specs.Message as grammar
@@ -42,9 +42,9 @@ abbrev pub Inside : (List ℕ → Type 0) → List ℕ → KnownPiece → Type 0
 Inside Such z (pieces.Is a) = (a .offset + a .length ≤ length z) × Such (held z a)
 Inside Such z pieces.NotYet = Unit {0}
 
-pub record RequestInside (z : List ℕ) (k : RequestLine) : Type 0 where
+pub record RequestInside (r : Rules) (z : List ℕ) (k : RequestLine) : Type 0 where
   pub method : Inside grammar.method z (k .method)
-  pub target : Inside (grammar.request-target default) z (k .target)
+  pub target : Inside (grammar.request-target r) z (k .target)
 
 -- no obs-text is ever given in a reason
 pub record StatusInside (z : List ℕ) (k : StatusLine) : Type 0 where

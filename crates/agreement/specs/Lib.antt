@@ -19,6 +19,7 @@ pub mod Exactly
 pub mod Promises
 pub mod Kept
 pub mod Calls
+pub mod AtOnce
 pub mod Loose
 pub mod ChunkDerived
 pub mod ChunkRead

@@ -56,20 +56,20 @@ module _ {z : List ℕ} {r : Rules} (fixed : Fixed r) {p : ℕ} {rest : List ℕ
             ∙ ap (λ y. e ++ ((m ++ space) ++ y)) (B₂ .whole ∙ ap (λ y. y ++ B₂ .w₂) (B₂ .left .line) ∙ ap (λ y. (t ++ space) ++ y) (B₃ .whole))
             ∙ regroup e m space t v c;
         empty = B₀ .left .lines;
-        line = grammar.request-line.line (tokens (B₁ .left .kind)) (target-derived fixed (B₂ .left .kind) (B₂ .left .text)) (version-derived fixed (B₃ .left));
+        line = grammar.request-line.line (tokens (B₁ .left .kind)) (target-derived (B₂ .left .kind) (B₂ .left .text)) (version-derived fixed (B₃ .left));
         ends = B₃ .right .holds;
         says = subst (λ y. RequestSays z y g) (sym same) (record { method = held-m; target = held-t; version = refl });
       }
 
 -- a method's first byte begins no empty line
-method-stops : (r : Rules) (b : ℕ) (ys : List ℕ) → isToken b ≡ true → Stops r (b ∷ ys)
+pub method-stops : (r : Rules) (b : ℕ) (ys : List ℕ) → isToken b ≡ true → Stops r (b ∷ ys)
 method-stops r b ys t = record { b = b; ys = ys; whole = refl; no-cr = rw (differs-test isToken b 13 cr-no-token t) (and-false (r .empty-lines)); no-lf = rw (differs-test isToken b 10 lf-no-token t) (and-false (r .empty-lines && r .lf-alone)) }
 
 module _ {z : List ℕ} {r : Rules} (fixed : Fixed r) {p : ℕ} {rest : List ℕ} where
   pub request-read : {e l c : List ℕ} {g : grammar.RequestLine} → At z p (e ++ l ++ c) rest → empty-lines r e → request-line r l g → line-end r c → LineRead RequestSays (RequestLined r) z p (e ++ l ++ c) g rest
   request-read {e = e} {c = c} h empty (grammar.request-line.line {m = m} {t = t} {v = v} {n = n} (some {b = b} {w = m′} x k) target version) d =
       let same : e ++ (m ++ space ++ t ++ space ++ v) ++ c ≡ e ++ ((m ++ space) ++ ((t ++ space) ++ (v ++ c))) = sym (regroup e m space t v c) in
-      let T = target-read fixed target in
+      let T = target-read target in
       let i : ℕ = p + length e in
       let j : ℕ = i + length (m ++ space) in
       let h₁ = at-second e ((m ++ space) ++ ((t ++ space) ++ (v ++ c))) (at-as same h) in

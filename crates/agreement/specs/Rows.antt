@@ -2,9 +2,9 @@
 -- Assumes nothing.
 use Prim.Native.Nat.{ℕ}
 use mathlib.Core.List.{List, _++_}
-use Rattle.octets.specs.Grammar.{field-vchar, tchar, blank, text}
-use Rattle.octets.specs.Class.{isBlank, isToken, isTarget, isValue}
-use Rattle.octets.specs.Ties.{blank-is-blank, token-is-tchar, target-is-field-vchar, value-is-text}
+use Rattle.octets.specs.Grammar.{VCHAR, field-vchar, tchar, blank, text}
+use Rattle.octets.specs.Class.{isBlank, isToken, isTarget, isValue, isVisible}
+use Rattle.octets.specs.Ties.{visible-is-VCHAR, blank-is-blank, token-is-tchar, target-is-field-vchar, value-is-text}
 use Rattle.grammar.specs.Rows.{Many, none, more, Some, some}
 use Rattle.leaves.specs.Rows.{In}
 
@@ -25,6 +25,12 @@ tokens = some-as (λ b. token-is-tchar b .0)
 
 pub in-token : {w : List ℕ} → Some tchar w → Some (In isToken) w
 in-token = some-as (λ b. token-is-tchar b .1)
+
+pub visibles : {w : List ℕ} → Some (In isVisible) w → Some VCHAR w
+visibles = some-as (λ b. visible-is-VCHAR b .0)
+
+pub in-visible : {w : List ℕ} → Some VCHAR w → Some (In isVisible) w
+in-visible = some-as (λ b. visible-is-VCHAR b .1)
 
 pub targets : {w : List ℕ} → Some (In isTarget) w → Some field-vchar w
 targets = some-as (λ b. target-is-field-vchar b .0)

@@ -17,7 +17,7 @@ use Rattle.parts.specs.LineEnd.{begin, lineEndStep}
 use Rattle.parts.specs.EmptyLines.{start, emptyLinesStep}
 use Rattle.words.specs.Word.{wordStep}
 use Rattle.words.specs.Word as words
-use Rattle.words.specs.Target.{targetStep}
+use Rattle.words.specs.Target.{targetByte, targetStep, space-no-target-byte}
 use Rattle.words.specs.Target as targets
 use Rattle.versions.specs.Version.{name, versionStep}
 use Rattle.spaces.specs.Space.{spaceStep, behindCodeStep}
@@ -54,7 +54,7 @@ module _ (r : Rules) where
   VersionOn k = Both (Adds (request.withVersion k) (DigitAt name)) EndOn
 
   abbrev pub TargetOn : RequestLine → Relation RequestLine
-  TargetOn k = Both (Adds (request.withTarget k) Targeted) VersionOn
+  TargetOn k = Both (Adds (request.withTarget k) (Targeted (targetByte (r .any-target)))) VersionOn
 
   abbrev pub MethodOn : RequestLine → Relation RequestLine
   MethodOn k = Both (Adds (request.withMethod k) (Worded isToken 32)) TargetOn
@@ -68,8 +68,8 @@ module _ (r : Rules) where
       (exact-part request.unread (λ _. request.unread) (emptyLinesStep r) start (exact-empties r)) (λ k.
       exact-seq (part k (request.withMethod k) (wordStep isToken 32 Token)) (λ _. first targets.none) (request.targetOn r) words.none
       (exact-part k (request.withMethod k) (wordStep isToken 32 Token) words.none (exact-word isToken 32 Token space-no-token)) (λ k.
-      exact-seq (part k (request.withTarget k) targetStep) (λ _. first name) (request.versionOn r) targets.none
-      (exact-part k (request.withTarget k) targetStep targets.none exact-target) (λ k.
+      exact-seq (part k (request.withTarget k) (targetStep (targetByte (r .any-target)))) (λ _. first name) (request.versionOn r) targets.none
+      (exact-part k (request.withTarget k) (targetStep (targetByte (r .any-target))) targets.none (exact-target (targetByte (r .any-target)) (space-no-target-byte (r .any-target)))) (λ k.
       exact-seq (part k (request.withVersion k) versionStep) (λ _. begin) (request.endStep r) name
       (exact-part k (request.withVersion k) versionStep name exact-version) (λ k.
       exact-part k (λ _. k) (lineEndStep r NewLine) begin (exact-line-end r NewLine)))))

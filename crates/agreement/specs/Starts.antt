@@ -5,37 +5,42 @@ use native.Mathlib.Omega.{arith}
 use mathlib.Core.Path.{_≡_, refl, sym, ap, subst}
 use mathlib.Core.Logic.{_⊎_, inl, inr}
 use mathlib.Core.List.{List, [], _∷_, _++_}
-use mathlib.Core.Bool.{true}
-use Rattle.reader.specs.Tests.{clash}
+use mathlib.Core.Bool.{Bool, true, false}
+use Rattle.reader.specs.Tests.{clash, never}
 use Rattle.octets.specs.Grammar.{Range, DIGIT, VCHAR, obs-text, field-vchar, blank, text}
 use Rattle.octets.specs.Grammar as bytes
-use Rattle.octets.specs.Class.{isTarget, isValue, isAscii}
+use Rattle.octets.specs.Class.{isValue, isAscii}
 use Rattle.octets.specs.Ties.{in-range, range-in, above-range, digit-is-DIGIT, value-is-text}
 use Rattle.utf8.specs.Grammar.{UTF8-octets}
 use Rattle.utf8.specs.Grammar as characters
 use Rattle.utf8.specs.Reader.{utf8}
 use Rattle.utf8.specs.Exact.{utf8-exact}
+use Rattle.rules.specs.declared.Settings.{Settings}
 use Rattle.rules.specs.Rules.{Rules, default}
+use Rattle.rules.specs.Settings.{rulesOf}
 use Rattle.grammar.specs.Rows.{Many, none, more, Some, some}
 use Rattle.grammar.specs.Message.{Version, HTTP-version, one-zero, one-one, request-target, status-code, ascii-text, reason-phrase}
 use Rattle.grammar.specs.Message as grammar
+use Rattle.words.specs.Target.{targetByte}
 use Rattle.versions.specs.Version.{name}
 use Rattle.status.specs.Code.{onto}
 use Rattle.leaves.specs.Rows.{In}
 use Rattle.leaves.specs.Version.{Digit, zero-digit, one-digit}
 use Rattle.leaves.specs.Status.{Coded, digits}
 use Rattle.leaves.specs.Reason.{Ascii, Obsolete}
-use Rattle.agreement.specs.Rows.{many-as, some-as, many-append, targets, in-target, texts, in-value}
+use Rattle.agreement.specs.Rows.{many-as, some-as, many-append, targets, in-target, visibles, in-visible, texts, in-value}
 
 -- where the reader has no choice, it reads as httparse does
 pub record Fixed (r : Rules) : Type 0 where
-  pub any-target : r .any-target ≡ true
   pub known-versions : r .known-versions ≡ true
   pub any-code : r .any-code ≡ true
   pub obs-reason : r .obs-reason ≡ true
 
 pub default-fixed : Fixed default
-default-fixed = record { any-target = refl; known-versions = refl; any-code = refl; obs-reason = refl }
+default-fixed = record { known-versions = refl; any-code = refl; obs-reason = refl }
+
+pub settings-fixed : (settings : Settings) → Fixed (rulesOf settings)
+settings-fixed settings = record { known-versions = refl; any-code = refl; obs-reason = refl }
 
 -- visible characters are UTF-8
 visible-utf8 : {w : List ℕ} → Many VCHAR w → UTF8-octets w
@@ -45,14 +50,27 @@ visible-utf8 (more {b = b} h k) = characters.UTF8-octets.char (characters.one (c
 some-many : {c : ℕ → Type 0} {w : List ℕ} → Some c w → Many c w
 some-many (some x k) = more x k
 
+module _ {r : Rules} where
+  pub target-derived : {w : List ℕ} → Some (In (targetByte (r .any-target))) w → utf8 w ≡ true → request-target r w
+  target-derived {w} = by (r .any-target) refl
+    where
+      by : (any : Bool) → r .any-target ≡ any → Some (In (targetByte any)) w → utf8 w ≡ true → request-target r w
+      by true h k e = grammar.request-target.any h (targets k) (utf8-exact w .0 e)
+      by false h k e = grammar.request-target.visible (visibles k)
+
+  pub target-read : {w : List ℕ} → request-target r w → Some (In (targetByte (r .any-target))) w × (utf8 w ≡ true)
+  target-read {w} (grammar.request-target.visible k) = (by (r .any-target), utf8-exact w .1 (visible-utf8 (some-many k)))
+    where
+      by : (any : Bool) → Some (In (targetByte any)) w
+      by true = in-target (some-as (λ b. bytes.field-vchar.visible) k)
+      by false = in-visible k
+  target-read {w} (grammar.request-target.any h k u) = (by (r .any-target) h, utf8-exact w .1 u)
+    where
+      by : (any : Bool) → any ≡ true → Some (In (targetByte any)) w
+      by true e = in-target k
+      by false e = never cc
+
 module _ {r : Rules} (fixed : Fixed r) where
-  pub target-derived : {w : List ℕ} → Some (In isTarget) w → utf8 w ≡ true → request-target r w
-  target-derived {w} k e = grammar.request-target.any (fixed .any-target) (targets k) (utf8-exact w .0 e)
-
-  pub target-read : {w : List ℕ} → request-target r w → Some (In isTarget) w × (utf8 w ≡ true)
-  target-read {w} (grammar.request-target.visible k) = (in-target (some-as (λ b. bytes.field-vchar.visible) k), utf8-exact w .1 (visible-utf8 (some-many k)))
-  target-read {w} (grammar.request-target.any h k u) = (in-target k, utf8-exact w .1 u)
-
   pub version-derived : {w : List ℕ} {a : ℕ} → Digit name w a → HTTP-version r w (record { major = 1; minor = a })
   version-derived zero-digit = one-zero
   version-derived one-digit = one-one

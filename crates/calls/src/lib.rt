@@ -1,10 +1,12 @@
 // The public calls: a request, a response, a block of headers alone and a chunk size line. They demand nothing of the caller, and
-// each contract says twice what the answer is: what the reader answers, and what that means in the grammar's words.
+// each contract says twice what the answer is: what the reader answers, and what that means in the grammar's words, by the rules that
+// the settings choose.
 ghost use mathlib.Core.Path.{_≡_};
 ghost use mathlib.Core.List.{[]};
 ghost use Prim.Native.Nat.{_/_};
 ghost use lib.ListN.{length};
 ghost use Rattle.rules.specs.Rules.{default};
+ghost use Rattle.rules.specs.Settings.{rulesOf};
 ghost use Rattle.grammar.specs.Message.{request-head, response-head};
 ghost use Rattle.blocks.specs.Block.{block, Told as BlockTold};
 ghost use Rattle.heads.specs.Head.{Told};
@@ -16,13 +18,14 @@ use blocks::Block;
 use chunks::ChunkSize;
 use heads::RequestHead;
 use heads::ResponseHead;
+use rules::Settings;
 
 // A header takes four numbers of `slots`: where its name is, the name's length, where its value is, the value's length.
-pub fn request(s: &[u8], slots: &mut [usize]) -> RequestHead
-    ensures { λ r. ⌜ Told (requestOf default (length (now (slots .entry)) / 4) (now (s .entry))) (r .end) (r .line) (r .count) (now (slots .entry)) (now (slots .exit)) ⌝ }
-    ensures { λ r. ⌜ HeadPromise (request-head default) RequestSays RequestInside (now (s .entry)) (now (slots .entry)) (r .end) (r .line) (r .count) (now (slots .exit)) ⌝ }
+pub fn request(s: &[u8], slots: &mut [usize], settings: Settings) -> RequestHead
+    ensures { λ r. ⌜ Told (requestOf (rulesOf settings) (length (now (slots .entry)) / 4) (now (s .entry))) (r .end) (r .line) (r .count) (now (slots .entry)) (now (slots .exit)) ⌝ }
+    ensures { λ r. ⌜ HeadPromise (request-head (rulesOf settings)) RequestSays (RequestInside (rulesOf settings)) (now (s .entry)) (now (slots .entry)) (r .end) (r .line) (r .count) (now (slots .exit)) ⌝ }
 {
-    heads::request(s, slots)
+    heads::request(s, slots, settings)
 }
 
 pub fn response(s: &[u8], slots: &mut [usize]) -> ResponseHead

@@ -1,10 +1,10 @@
 -- The tests of the classes, each computed at all 256 bytes.
 -- Assumes nothing.
-use Prim.Native.Nat.{ℕ, _<_}
+use Prim.Native.Nat.{ℕ}
 use mathlib.Core.Path.{_≡_, refl, sym, ap, _∙_}
 use mathlib.Core.Bool.{Bool, true, _||_, not}
 use lib.Dec.{eqb}
-use Rattle.octets.specs.Class.{among, within, isDigit, isBlank, isTarget, isToken, isValue, isAscii}
+use Rattle.octets.specs.Class.{among, within, isDigit, isBlank, isTarget, isToken, isValue, isVisible, isAscii}
 use Rattle.octets.specs.Table.{table, same}
 use Rattle.flags.specs.Test.{Test, least, capital-least, high, flag, both, either, none, at-byte}
 use Rattle.flags.specs.Sure.{flags, clear, Shows, Sure, sure}
@@ -16,6 +16,10 @@ notValue = both (either (none (least 0x20)) (least 0x7F)) (none high)
 -- below 0x21, or DEL
 abbrev pub notTarget : Test
 notTarget = both (either (none (least 0x21)) (least 0x7F)) (none high)
+
+-- below 0x21, or from 0x7F on
+abbrev pub notVisible : Test
+notVisible = either (either (none (least 0x21)) (least 0x7F)) high
 
 -- neither a letter nor a hyphen, of which most names are made; digits and the other marks too
 abbrev pub notToken : Test
@@ -40,6 +44,10 @@ module _ {x f r : ℕ} where
   pub sure-target : f ≡ flags notTarget x → r ≡ clear f → Sure isTarget x r
   unfolding isTarget within
   sure-target = sure notTarget (shows notTarget isTarget refl)
+
+  pub sure-visible : f ≡ flags notVisible x → r ≡ clear f → Sure isVisible x r
+  unfolding isVisible within
+  sure-visible = sure notVisible (shows notVisible isVisible refl)
 
   pub sure-token : f ≡ flags notToken x → r ≡ clear f → Sure isToken x r
   unfolding isToken isDigit within among

@@ -1,6 +1,6 @@
 -- How many bytes of a number are 0, from the first on: an eighth of the zeros below its lowest bit.
 -- Assumes nothing.
-use Prim.Native.Nat.{ℕ, zero, suc, _+_, _-_, _*_, _/_, _%_, _≤_, _<_}
+use Prim.Native.Nat.{ℕ, zero, suc, _+_, _*_, _/_, _%_, _≤_, _<_}
 use native.Mathlib.Omega.{arith}
 use native.Mathlib.Nat.{add-zero, suc-add, add-suc}
 use native.Mathlib.Decide.{decLt}
@@ -39,9 +39,9 @@ even : (d n : ℕ) → n % 2 ≡ 0 → trailingZeros (suc d) n ≡ suc (trailing
 unfolding trailingZeros
 even d n e = ap (λ r. under r (trailingZeros d (n / 2))) e
 
-odd : (d n : ℕ) → 1 ≤ trailingZeros (suc d) n → n % 2 ≡ 0
+even-of-zero : (d n : ℕ) → 1 ≤ trailingZeros (suc d) n → n % 2 ≡ 0
 unfolding trailingZeros
-odd d n = go (n % 2) refl
+even-of-zero d n = go (n % 2) refl
   where
     go : (r : ℕ) → n % 2 ≡ r → 1 ≤ under r (trailingZeros d (n / 2)) → n % 2 ≡ 0
     go zero e l = e
@@ -67,21 +67,21 @@ zero-byte d x h =
 -- and eight zeros are such a byte
 full-byte : (d x : ℕ) → 8 ≤ trailingZeros (eight-more d) x → x % 256 ≡ 0
 full-byte d x h =
-    let z₁ = odd (suc (suc (suc (suc (suc (suc (suc d))))))) x (omega (arith, h)) in
+    let z₁ = even-of-zero (suc (suc (suc (suc (suc (suc (suc d))))))) x (omega (arith, h)) in
     let e₁ = even (suc (suc (suc (suc (suc (suc (suc d))))))) x z₁ in
-    let z₂ = odd (suc (suc (suc (suc (suc (suc d)))))) (x / 2) (omega (arith, h, e₁)) in
+    let z₂ = even-of-zero (suc (suc (suc (suc (suc (suc d)))))) (x / 2) (omega (arith, h, e₁)) in
     let e₂ = even (suc (suc (suc (suc (suc (suc d)))))) (x / 2) z₂ in
-    let z₃ = odd (suc (suc (suc (suc (suc d))))) (x / 2 / 2) (omega (arith, h, e₁, e₂)) in
+    let z₃ = even-of-zero (suc (suc (suc (suc (suc d))))) (x / 2 / 2) (omega (arith, h, e₁, e₂)) in
     let e₃ = even (suc (suc (suc (suc (suc d))))) (x / 2 / 2) z₃ in
-    let z₄ = odd (suc (suc (suc (suc d)))) (x / 2 / 2 / 2) (omega (arith, h, e₁, e₂, e₃)) in
+    let z₄ = even-of-zero (suc (suc (suc (suc d)))) (x / 2 / 2 / 2) (omega (arith, h, e₁, e₂, e₃)) in
     let e₄ = even (suc (suc (suc (suc d)))) (x / 2 / 2 / 2) z₄ in
-    let z₅ = odd (suc (suc (suc d))) (x / 2 / 2 / 2 / 2) (omega (arith, h, e₁, e₂, e₃, e₄)) in
+    let z₅ = even-of-zero (suc (suc (suc d))) (x / 2 / 2 / 2 / 2) (omega (arith, h, e₁, e₂, e₃, e₄)) in
     let e₅ = even (suc (suc (suc d))) (x / 2 / 2 / 2 / 2) z₅ in
-    let z₆ = odd (suc (suc d)) (x / 2 / 2 / 2 / 2 / 2) (omega (arith, h, e₁, e₂, e₃, e₄, e₅)) in
+    let z₆ = even-of-zero (suc (suc d)) (x / 2 / 2 / 2 / 2 / 2) (omega (arith, h, e₁, e₂, e₃, e₄, e₅)) in
     let e₆ = even (suc (suc d)) (x / 2 / 2 / 2 / 2 / 2) z₆ in
-    let z₇ = odd (suc d) (x / 2 / 2 / 2 / 2 / 2 / 2) (omega (arith, h, e₁, e₂, e₃, e₄, e₅, e₆)) in
+    let z₇ = even-of-zero (suc d) (x / 2 / 2 / 2 / 2 / 2 / 2) (omega (arith, h, e₁, e₂, e₃, e₄, e₅, e₆)) in
     let e₇ = even (suc d) (x / 2 / 2 / 2 / 2 / 2 / 2) z₇ in
-    let z₈ = odd d (x / 2 / 2 / 2 / 2 / 2 / 2 / 2) (omega (arith, h, e₁, e₂, e₃, e₄, e₅, e₆, e₇)) in
+    let z₈ = even-of-zero d (x / 2 / 2 / 2 / 2 / 2 / 2 / 2) (omega (arith, h, e₁, e₂, e₃, e₄, e₅, e₆, e₇)) in
     omega (arith, z₁, z₂, z₃, z₄, z₅, z₆, z₇, z₈)
 
 abbrev eights : ℕ → ℕ

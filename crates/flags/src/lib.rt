@@ -1,14 +1,14 @@
 // Eight bytes as one number, the first lowest: how many of them, from the first on, are surely of a class.
 ghost use mathlib.Core.Path.{_≡_};
-ghost use Rattle.octets.specs.Class.{isAscii, isTarget, isToken, isValue};
+ghost use Rattle.octets.specs.Class.{isAscii, isTarget, isToken, isValue, isVisible};
 ghost use Rattle.flags.specs.Sure.{flags, clear as clearOf, Sure};
-ghost use Rattle.flags.specs.Classes.{notAscii, notTarget, notToken, notValue};
+ghost use Rattle.flags.specs.Classes.{notTarget, notToken, notValue, notVisible};
 
 const LOW: u64 = 0x7f7f_7f7f_7f7f_7f7f;
 
 const FLAGS: u64 = 0x8080_8080_8080_8080;
 
-// How many bytes stand before the first that has a flag: all eight, if none has.
+// How many bytes stand before the first that has a flag: all eight, if none has, which is tested apart since callers go on from there.
 fn clear(flags: u64) -> usize
     ensures { λ r. ⌜ r ≡ clearOf flags ⌝ }
 {
@@ -52,6 +52,13 @@ fn target_flags(x: u64) -> u64
     (((y + 0x5f5f_5f5f_5f5f_5f5f) ^ FLAGS) | (y + 0x0101_0101_0101_0101)) & (x ^ FLAGS) & FLAGS
 }
 
+fn visible_flags(x: u64) -> u64
+    ensures { λ r. ⌜ r ≡ flags notVisible x ⌝ }
+{
+    let y = x & LOW;
+    (((y + 0x5f5f_5f5f_5f5f_5f5f) ^ FLAGS) | (y + 0x0101_0101_0101_0101) | x) & FLAGS
+}
+
 // Letters and hyphens have none, of which most names are made; digits and the other marks are left to the test of one byte.
 fn token_flags(x: u64) -> u64
     ensures { λ r. ⌜ r ≡ flags notToken x ⌝ }
@@ -73,6 +80,12 @@ pub fn target(x: u64) -> usize
     ensures { λ r. ⌜ Sure isTarget x r ⌝ }
 {
     clear(target_flags(x))
+}
+
+pub fn visible(x: u64) -> usize
+    ensures { λ r. ⌜ Sure isVisible x r ⌝ }
+{
+    clear(visible_flags(x))
 }
 
 pub fn token(x: u64) -> usize

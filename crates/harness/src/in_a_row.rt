@@ -1,6 +1,7 @@
 // Heads in a row.
 use rows::RowRead;
 use rows::Stop;
+use rules::Settings;
 
 // How many heads were read and the position behind them; 0 where that is all of the input, 1 where the next head is incomplete, a number
 // from 2 on for its error, and 10 where there is no room for one more end.
@@ -22,8 +23,10 @@ pub extern "C" fn harness_requests(
     slots: &mut [usize],
     ends: &mut [usize],
     out: &mut [usize; 2],
+    ascii_targets: bool,
 ) -> u32 {
-    told(rows::requests(buf, slots, ends), out)
+    let settings = Settings { ascii_targets };
+    told(rows::requests(buf, slots, ends, settings), out)
 }
 
 #[no_mangle]

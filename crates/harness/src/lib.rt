@@ -12,7 +12,7 @@ pub extern "C" fn harness_utf8(s: &[u8]) -> bool
     utf8::is_utf8(s)
 }
 
-// The classes by number: token, target, value, blank, ASCII, digit, hexadecimal digit.
+// The classes by number: token, target, value, blank, ASCII, visible ASCII, digit, hexadecimal digit.
 #[no_mangle]
 pub extern "C" fn harness_is(class: u8, b: u8) -> bool {
     match class {
@@ -21,13 +21,14 @@ pub extern "C" fn harness_is(class: u8, b: u8) -> bool {
         2 => octets::is_value(b),
         3 => octets::is_blank(b),
         4 => octets::is_ascii(b),
-        5 => octets::is_digit(b),
-        6 => octets::is_hex_digit(b),
+        5 => octets::is_visible(b),
+        6 => octets::is_digit(b),
+        7 => octets::is_hex_digit(b),
         _ => false,
     }
 }
 
-// The first five of them have a skip.
+// The first six of them have a skip.
 #[no_mangle]
 pub extern "C" fn harness_skip(class: u8, s: &[u8], at: usize) -> usize {
     match class {
@@ -36,6 +37,7 @@ pub extern "C" fn harness_skip(class: u8, s: &[u8], at: usize) -> usize {
         2 => skips::skip_value(s, at),
         3 => skips::skip_blank(s, at),
         4 => skips::skip_ascii(s, at),
+        5 => skips::skip_visible(s, at),
         _ => at,
     }
 }

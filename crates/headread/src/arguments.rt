@@ -1,5 +1,7 @@
-// The arguments: request|response|headers|chunk [--raw] [FILE], or --plain request|response|headers [FILE].
+// The arguments: request|response|headers|chunk [--raw] [FILE], or --plain request|response|headers [FILE]; before them, settings.
+ghost use Prim.Native.Nat.{_≤_};
 use libc::STDERR_FILENO;
+use rules::Settings;
 use wording::Kind;
 
 // A report for a person or for a script, or the plain form.
@@ -9,9 +11,10 @@ pub enum Mode {
     Plain,
 }
 
-// What to read, what to print of it, and which argument names the file, 0 for none; or the call was refused with a message.
+// What to read, what to print of it, with which settings, and which argument names the file, 0 for none; or the call was refused with a
+// message.
 pub enum Call {
-    Read(Kind, Mode, usize),
+    Read(Kind, Mode, Settings, usize),
     Refused,
 }
 
@@ -21,30 +24,45 @@ enum Word {
 }
 
 pub fn asked() -> Call {
-    if is(1, b"--plain") {
-        return asked_plain();
+    let settings = Settings {
+        ascii_targets: is(1, b"--ascii-targets"),
+    };
+    if settings.ascii_targets {
+        return asked_behind(2, settings);
     }
-    let word = kind_at(1);
+    asked_behind(1, settings)
+}
+
+// The arguments from the first that is no setting on.
+fn asked_behind(at: usize, settings: Settings) -> Call
+    requires { ⌜ at ≤ 2 ⌝ }
+{
+    if is(at, b"--plain") {
+        return asked_plain(at + 1, settings);
+    }
+    let word = kind_at(at);
     match word {
         Word::Is(kind) => {
-            if is(2, b"--raw") {
-                with_file(kind, Mode::Script, 3)
+            if is(at + 1, b"--raw") {
+                with_file(kind, Mode::Script, settings, at + 2)
             } else {
-                with_file(kind, Mode::Person, 2)
+                with_file(kind, Mode::Person, settings, at + 1)
             }
         }
         Word::Other => refused(
-            b"headread: the first argument must be request, response, headers or chunk, or --plain\n",
+            b"headread: the first argument must be request, response, headers or chunk, or --plain, or a setting before them\n",
         ),
     }
 }
 
-fn asked_plain() -> Call {
-    let word = kind_at(2);
+fn asked_plain(at: usize, settings: Settings) -> Call
+    requires { ⌜ at ≤ 3 ⌝ }
+{
+    let word = kind_at(at);
     match word {
         Word::Is(kind) => match kind {
             Kind::Chunk => refused(b"headread: a chunk size line has no plain form\n"),
-            _ => with_file(kind, Mode::Plain, 3),
+            _ => with_file(kind, Mode::Plain, settings, at + 1),
         },
         Word::Other => refused(
             b"headread: behind --plain must stand request, response or headers\n",
@@ -81,15 +99,26 @@ fn is(at: usize, option: &[u8]) -> bool {
     check::same(&word[..n], option)
 }
 
+// A setting is for the kind that it changes.
+fn with_file(kind: Kind, mode: Mode, settings: Settings, at: usize) -> Call {
+    if !settings.ascii_targets {
+        return file_at(kind, mode, settings, at);
+    }
+    match kind {
+        Kind::Request => file_at(kind, mode, settings, at),
+        _ => refused(b"headread: --ascii-targets is for requests: nothing else has a target\n"),
+    }
+}
+
 // The file is the last argument, and may be left out.
-fn with_file(kind: Kind, mode: Mode, at: usize) -> Call {
+fn file_at(kind: Kind, mode: Mode, settings: Settings, at: usize) -> Call {
     let count = os::arg_count();
     if count <= at {
-        return Call::Read(kind, mode, 0);
+        return Call::Read(kind, mode, settings, 0);
     }
     if is_option(at) {
         return refused(
-            b"headread: --plain stands first, --raw second; a file whose name starts with - is given as ./-\n",
+            b"headread: settings stand first, then --plain, and --raw behind the kind; a file whose name starts with - is given as ./-\n",
         );
     }
     if at < count - 1 {
@@ -97,7 +126,7 @@ fn with_file(kind: Kind, mode: Mode, at: usize) -> Call {
             b"headread: too many arguments: one file is read, and its name stands last\n",
         );
     }
-    Call::Read(kind, mode, at)
+    Call::Read(kind, mode, settings, at)
 }
 
 fn is_option(at: usize) -> bool {
@@ -113,12 +142,14 @@ fn refused(why: &[u8]) -> Call {
     io::write_all(STDERR_FILENO, why);
     io::write_all(
         STDERR_FILENO,
-        b"usage: headread request|response|headers|chunk [--raw] [FILE]
-       headread --plain request|response|headers [FILE]
+        b"usage: headread [SETTING] request|response|headers|chunk [--raw] [FILE]
+       headread [SETTING] --plain request|response|headers [FILE]
   says what stands at the start of FILE, or of standard input where no file is named
   --raw    one line a field with tabs between, for scripts
   --plain  the head in its plain form: CR LF at each line's end, one space before each value; what stands behind
            the head is not written
+the setting, for requests
+  --ascii-targets  a target is visible ASCII alone
 ",
     );
     Call::Refused

@@ -4,7 +4,8 @@ use Prim.Native.Nat.{ℕ, _/_}
 use mathlib.Core.Path.{_≡_}
 use mathlib.Core.List.{List, []}
 use lib.ListN.{length}
-use Rattle.rules.specs.Rules.{default}
+use Rattle.rules.specs.Rules.{Rules, default}
+use Rattle.rules.specs.Settings.{rulesOf}
 use Rattle.grammar.specs.Message.{request-head, response-head}
 use Rattle.heads.specs.Head.{Told}
 use Rattle.heads.specs.Calls.{request, response}
@@ -12,7 +13,7 @@ use Rattle.blocks.specs.Block as blocks
 use Rattle.chunks.specs.Chunk.{chunk, sizeOf}
 use Rattle.agreement.specs.Known.{RequestSays, StatusSays, RequestInside, StatusInside}
 use Rattle.agreement.specs.Promises.{HeadPromise, block-alone, says-nothing, lies-nowhere, ChunkPromise}
-use Rattle.headreader.specs.Numbers.{kindOf, requestNumbers, responseNumbers, blockNumbers, sizeKind, sizeNumbers}
+use Rattle.headreader.specs.Numbers.{settingsOf, kindOf, requestNumbers, responseNumbers, blockNumbers, sizeKind, sizeNumbers}
 
 -- there is an answer that the call may give, by its own contract, and it is told in numbers
 pub record Export {A : Type 0} (Told Promised : A → Type 0) (kindIs : A → ℕ) (numbersOf : A → List ℕ) (r : ℕ) (out : List ℕ) : Type 0 where
@@ -22,10 +23,14 @@ pub record Export {A : Type 0} (Told Promised : A → Type 0) (kindIs : A → �
   pub kind : r ≡ kindIs answer
   pub numbers : out ≡ numbersOf answer
 
+-- a request by the rules that the bits of the settings choose
+abbrev pub ExportBy : Rules → List ℕ → List ℕ → ℕ → List ℕ → List ℕ → Type 0
+ExportBy rules s old r out new =
+    Export (λ h. Told (request rules (length old / 4) s) (h .end) (h .line) (h .count) old new) (λ h. HeadPromise (request-head rules) RequestSays (RequestInside rules) s old (h .end) (h .line) (h .count) new) (λ h. kindOf (h .end)) requestNumbers r out
+
 module _ (s old : List ℕ) (r : ℕ) (out new : List ℕ) where
-  abbrev pub RequestExport : Type 0
-  RequestExport =
-      Export (λ h. Told (request default (length old / 4) s) (h .end) (h .line) (h .count) old new) (λ h. HeadPromise (request-head default) RequestSays RequestInside s old (h .end) (h .line) (h .count) new) (λ h. kindOf (h .end)) requestNumbers r out
+  abbrev pub RequestExport : ℕ → Type 0
+  RequestExport bits = ExportBy (rulesOf (settingsOf bits)) s old r out new
 
   abbrev pub ResponseExport : Type 0
   ResponseExport =

@@ -1,23 +1,31 @@
 -- One law for each way through the code.
 -- Assumes nothing.
-use Prim.Native.Nat.{ℕ, _+_}
-use mathlib.Core.Path.{_≡_, sym, ap, _∙_}
+use Prim.Native.Nat.{ℕ, _+_, _/_, _%_}
+use mathlib.Core.Path.{_≡_, sym, ap, subst, _∙_}
 use mathlib.Core.List.{List, [], _∷_}
 use mathlib.Core.Bool.{cond}
+use lib.ListN.{length}
+use lib.Dec.{eqb}
 use borrow.Author.Tests.{eq-eqb, ne-eqb}
 use Rattle.parts.specs.declared.Piece.{Piece}
 use Rattle.startline.specs.declared.KnownPiece.{KnownPiece}
 use Rattle.startline.specs.declared.KnownPiece.the-variants as pieces
 use Rattle.startline.specs.Answers.{numberOf}
+use Rattle.rules.specs.declared.Settings.{Settings}
 use Rattle.rules.specs.Rules.{default}
+use Rattle.rules.specs.Settings.{rulesOf, off, ascii-targets}
+use Rattle.grammar.specs.Message.{request-head}
+use Rattle.heads.specs.Head.{Told}
+use Rattle.heads.specs.Calls.{request}
+use Rattle.agreement.specs.Known.{RequestSays, RequestInside}
 use Rattle.heads.specs.declared.RequestHead.{RequestHead}
 use Rattle.heads.specs.declared.ResponseHead.{ResponseHead}
 use Rattle.blocks.specs.declared.Block.{Block}
 use Rattle.chunks.specs.declared.ChunkSize.{ChunkSize}
 use Rattle.chunks.specs.Chunk.{chunk, sizeOf}
-use Rattle.agreement.specs.Promises.{ChunkPromise}
-use Rattle.headreader.specs.Numbers.{positionOf, pieceOf, pieceBit, numberBit, placed, requestNumbers, responseNumbers, blockNumbers, sizeKind, sizeNumbers}
-use Rattle.headreader.specs.Exports.{SizeExport}
+use Rattle.agreement.specs.Promises.{HeadPromise, ChunkPromise}
+use Rattle.headreader.specs.Numbers.{settingsOf, kindOf, positionOf, pieceOf, pieceBit, numberBit, placed, requestNumbers, responseNumbers, blockNumbers, sizeKind, sizeNumbers}
+use Rattle.headreader.specs.Exports.{ExportBy, RequestExport, SizeExport}
 
 pub unknown-piece : {k : KnownPiece} → k ≡ pieces.NotYet → record { offset = 0; length = 0 } ≡ pieceOf k
 unknown-piece h = sym (ap pieceOf h)
@@ -41,6 +49,26 @@ module _ (head : ResponseHead) {p k l m n c : ℕ} {f g : Piece} {out : List ℕ
 
 pub block-numbers : (block : Block) {p : ℕ} {out : List ℕ} → p ≡ positionOf (block .end) → out ≡ p ∷ block .count ∷ 0 ∷ 0 ∷ 0 ∷ 0 ∷ 0 ∷ 0 ∷ [] → out ≡ blockNumbers block
 block-numbers block a o = o ∙ rw a
+
+-- the bit of a setting alone decides about it
+bit-test : (bits d : ℕ) → (bits / 128) % 2 ≡ d → settingsOf bits ≡ record { «ascii_targets» = eqb d 1 }
+bit-test bits d e = ap (λ y. record { «ascii_targets» = eqb y 1 }) e
+
+pub bit-clear : (bits : ℕ) → (bits / 128) % 2 ≡ 0 → settingsOf bits ≡ off
+bit-clear bits = bit-test bits 0
+
+pub bit-set : (bits : ℕ) → (bits / 128) % 2 ≡ 1 → settingsOf bits ≡ ascii-targets
+bit-set bits = bit-test bits 1
+
+-- with the bit clear, whatever the other bits are, the function for C tells the answer under the default, as it did before there were settings
+pub request-clear : (bits : ℕ) {s old : List ℕ} {r : ℕ} {out new : List ℕ} → (bits / 128) % 2 ≡ 0 → RequestExport s old r out new bits → ExportBy default s old r out new
+request-clear bits {s} {old} {r} {out} {new} e x = subst (λ y. ExportBy (rulesOf y) s old r out new) (bit-clear bits e) x
+
+-- a request, read with the settings that the bits ask for
+pub request-exported : (bits : ℕ) {s old new out : List ℕ} {settings : Settings} {r : ℕ} {head : RequestHead} → settings ≡ settingsOf bits → Told (request (rulesOf settings) (length old / 4) s) (head .end) (head .line) (head .count) old new × HeadPromise (request-head (rulesOf settings)) RequestSays (RequestInside (rulesOf settings)) s old (head .end) (head .line) (head .count) new → r ≡ kindOf (head .end) → out ≡ requestNumbers head → RequestExport s old r out new bits
+request-exported bits {s} {old} {new} {head = head} e t k o =
+    let q = subst (λ y. Told (request (rulesOf y) (length old / 4) s) (head .end) (head .line) (head .count) old new × HeadPromise (request-head (rulesOf y)) RequestSays (RequestInside (rulesOf y)) s old (head .end) (head .line) (head .count) new) e t in
+    record { answer = head; told = q .0; promise = q .1; kind = k; numbers = o }
 
 -- a chunk size line: z is what the arm took it for
 pub size-told : {s : List ℕ} {size z : ChunkSize} {r : ℕ} {out : List ℕ} → sizeOf size ≡ chunk default s → ChunkPromise s size → size ≡ z → r ≡ sizeKind z → out ≡ sizeNumbers z → SizeExport s r out

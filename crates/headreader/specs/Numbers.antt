@@ -1,9 +1,10 @@
--- The answers as numbers, for programs in C.
+-- The answers and the settings as numbers, for programs in C.
 -- Assumes nothing.
-use Prim.Native.Nat.{ℕ, _+_}
+use Prim.Native.Nat.{ℕ, _+_, _/_, _%_}
 use mathlib.Core.List.{List, [], _∷_}
 use mathlib.Core.Bool.{cond}
 use lib.Dec.{eqb}
+use Rattle.rules.specs.declared.Settings.{Settings}
 use Rattle.parts.specs.declared.Error.{Error}
 use Rattle.parts.specs.declared.Error.the-variants.{HeaderName, HeaderValue, NewLine, Status, Token, TooManyHeaders, Version}
 use Rattle.parts.specs.declared.Passed.{Passed}
@@ -19,6 +20,10 @@ use Rattle.heads.specs.declared.ResponseHead.{ResponseHead}
 use Rattle.blocks.specs.declared.Block.{Block}
 use Rattle.chunks.specs.declared.ChunkSize.{ChunkSize}
 use Rattle.chunks.specs.declared.ChunkSize.the-variants as sizes
+
+-- each setting has a bit
+abbrev pub settingsOf : ℕ → Settings
+settingsOf bits = record { «ascii_targets» = eqb ((bits / 128) % 2) 1 }
 
 -- the number of each error
 abbrev pub errorNumber : Error → ℕ

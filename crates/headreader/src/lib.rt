@@ -2,7 +2,7 @@
 ghost use mathlib.Core.Path.{_≡_};
 ghost use Prim.Native.Nat.{_≤_};
 ghost use Rattle.startline.specs.Answers.{numberOf};
-ghost use Rattle.headreader.specs.Numbers.{errorNumber, kindOf, positionOf, pieceOf, pieceBit, numberBit, placed, requestNumbers, responseNumbers};
+ghost use Rattle.headreader.specs.Numbers.{settingsOf, errorNumber, kindOf, positionOf, pieceOf, pieceBit, numberBit, placed, requestNumbers, responseNumbers};
 ghost use Rattle.headreader.specs.Exports.{RequestExport, ResponseExport, HeadersExport, SizeExport};
 use chunks::ChunkSize;
 use heads::RequestHead;
@@ -10,6 +10,7 @@ use heads::ResponseHead;
 use parts::Error;
 use parts::Passed;
 use parts::Piece;
+use rules::Settings;
 use startline::KnownNumber;
 use startline::KnownPiece;
 
@@ -151,7 +152,15 @@ fn put_response(out: &mut [usize; 8], head: ResponseHead)
     ];
 }
 
-// No setting has an effect yet.
+// What each bit asks for; a bit without a meaning has no effect.
+fn settings_of(bits: u32) -> Settings
+    ensures { λ r. ⌜ r ≡ settingsOf bits ⌝ }
+{
+    Settings {
+        ascii_targets: (bits / 128) % 2 == 1,
+    }
+}
+
 #[no_mangle]
 pub extern "C" fn hr_request(
     buf: &[u8],
@@ -159,14 +168,15 @@ pub extern "C" fn hr_request(
     out: &mut [usize; 8],
     settings: u32,
 ) -> u32
-    ensures { λ r. ⌜ RequestExport (now (buf .entry)) (now (slots .entry)) r (now (out .exit)) (now (slots .exit)) ⌝ }
+    ensures { λ r. ⌜ RequestExport (now (buf .entry)) (now (slots .entry)) r (now (out .exit)) (now (slots .exit)) settings ⌝ }
 {
-    let head = calls::request(buf, slots);
+    let head = calls::request(buf, slots, settings_of(settings));
     let end = head.end;
     put_request(out, head);
     kind(end)
 }
 
+// No setting changes a response yet.
 #[no_mangle]
 pub extern "C" fn hr_response(
     buf: &[u8],

@@ -3,12 +3,14 @@ ghost use mathlib.Core.List.{[]};
 ghost use Prim.Native.Nat.{_/_};
 ghost use lib.ListN.{length};
 ghost use Rattle.rules.specs.Rules.{default};
+ghost use Rattle.rules.specs.Settings.{rulesOf};
 ghost use Rattle.blocks.specs.Block.{block, Told as BlockTold};
 ghost use Rattle.heads.specs.Head.{Told};
 ghost use Rattle.heads.specs.Calls.{request as requestOf, response as responseOf};
 use blocks::Block;
 use parts::Passed;
 use requestline::RequestLine;
+use rules::Settings;
 use statusline::StatusLine;
 
 // What reading a request comes to, what is known of its start line, and how many headers are in the slots.
@@ -26,10 +28,10 @@ pub struct ResponseHead {
 }
 
 // A header takes four numbers of `slots`: where its name is, the name's length, where its value is, the value's length.
-pub fn request(s: &[u8], slots: &mut [usize]) -> RequestHead
-    ensures { λ r. ⌜ Told (requestOf default (length (now (slots .entry)) / 4) (now (s .entry))) (r .end) (r .line) (r .count) (now (slots .entry)) (now (slots .exit)) ⌝ }
+pub fn request(s: &[u8], slots: &mut [usize], settings: Settings) -> RequestHead
+    ensures { λ r. ⌜ Told (requestOf (rulesOf settings) (length (now (slots .entry)) / 4) (now (s .entry))) (r .end) (r .line) (r .count) (now (slots .entry)) (now (slots .exit)) ⌝ }
 {
-    let read = requestline::request_line(s);
+    let read = requestline::request_line(s, settings);
     let line = read.line;
     let end = read.end;
     match end {

@@ -1,4 +1,5 @@
 pub mod Strict
+pub mod Settings
 pub mod Text
 pub mod Builders
 pub mod Examples

@@ -34,7 +34,7 @@ module _ {r s : Rules} (lf-too : r .lf-alone ≡ true → s .lf-alone ≡ true) 
     empty-lines-as grammar.empty-lines.none = grammar.empty-lines.none
     empty-lines-as (grammar.empty-lines.more t e k) = grammar.empty-lines.more (empty-too t) (line-end-as e) (empty-lines-as k)
 
-    head-as : {L : Type 0} {A B : List ℕ → L → Type 0} {w : List ℕ} {l : L} {fs : List Field} → ((v : List ℕ) → A v l → B v l) → head r A w l fs → head s B w l fs
+    pub head-as : {L : Type 0} {A B : List ℕ → L → Type 0} {w : List ℕ} {l : L} {fs : List Field} → ((v : List ℕ) → A v l → B v l) → head r A w l fs → head s B w l fs
     head-as f (grammar.head.message {w = v} e l c b) = grammar.head.message (empty-lines-as e) (f v l) (line-end-as c) (block-as b)
 
 -- known-versions: 1.0 or 1.1

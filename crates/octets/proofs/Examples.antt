@@ -4,7 +4,7 @@ use Prim.Native.Nat.{ℕ}
 use mathlib.Core.Path.{_≡_, refl}
 use mathlib.Core.List.{List, [], _∷_}
 use mathlib.Core.Bool.{Bool, true, _&&_, not}
-use Rattle.octets.specs.Class.{among, within, isAscii, isBlank, isDigit, isHexDigit, isTarget, isToken, isValue}
+use Rattle.octets.specs.Class.{among, within, isAscii, isBlank, isDigit, isHexDigit, isTarget, isToken, isValue, isVisible}
 
 abbrev all : (ℕ → Bool) → List ℕ → Bool
 all f [] = true
@@ -44,6 +44,14 @@ tokens = refl
 no-tokens : none isToken (0x00 ∷ 0x09 ∷ 0x20 ∷ 0x22 ∷ 0x28 ∷ 0x29 ∷ 0x2C ∷ 0x2F ∷ 0x3A ∷ 0x40 ∷ 0x5B ∷ 0x5D ∷ 0x7B ∷ 0x7D ∷ 0x7F ∷ 0x80 ∷ 0xFF ∷ []) ≡ true
 unfolding isToken isDigit within among
 no-tokens = refl
+
+visible : all isVisible (0x21 ∷ 0x7E ∷ []) ≡ true
+unfolding isVisible within
+visible = refl
+
+not-visible : none isVisible (0x00 ∷ 0x20 ∷ 0x7F ∷ 0x80 ∷ 0xFF ∷ []) ≡ true
+unfolding isVisible within
+not-visible = refl
 
 targets : all isTarget (0x21 ∷ 0x7E ∷ 0x80 ∷ 0xFF ∷ []) ≡ true
 unfolding isTarget within

@@ -5,7 +5,7 @@ use native.Mathlib.Omega.{arith}
 use mathlib.Core.Path.{_≡_, refl, ap, _∙_}
 use mathlib.Core.Bool.{Bool, _&&_, _||_, not}
 use lib.Dec.{eqb, leb, ltb}
-use Rattle.octets.specs.Class.{among, within, isAscii, isBlank, isDigit, isHexDigit, isTarget, isToken, isValue}
+use Rattle.octets.specs.Class.{among, within, isAscii, isBlank, isDigit, isHexDigit, isTarget, isToken, isValue, isVisible}
 use Rattle.octets.specs.Table.{same, same-from}
 
 abbrev bits-test : ℕ → ℕ → Bool
@@ -19,6 +19,10 @@ module _ (b : ℕ) where
   pub token-high : {half : ℕ} → half ≡ 0x57ff_ffff_c7ff_fffe → 64 ≤ b → b < 256 → bits-test half b ≡ isToken b
   unfolding isToken isDigit within among
   token-high e l h = ap (λ x. bits-test x b) e ∙ same-from (bits-test 0x57ff_ffff_c7ff_fffe) isToken 64 192 refl b l h
+
+  pub visible-test : b < 256 → (ltb 32 b && ltb b 127) ≡ isVisible b
+  unfolding isVisible within
+  visible-test = same (λ k. ltb 32 k && ltb k 127) isVisible refl b
 
   pub target-test : b < 256 → (ltb 32 b && not (eqb b 127)) ≡ isTarget b
   unfolding isTarget within
@@ -45,4 +49,4 @@ module _ (b : ℕ) where
   ascii-test = same (λ k. ltb k 128) isAscii refl b
 
 -- what proves a test of a class
-pub ruleset tests = (token-low, token-high, target-test, value-test, blank-test, digit-test, hex-digit-test, ascii-test)
+pub ruleset tests = (token-low, token-high, visible-test, target-test, value-test, blank-test, digit-test, hex-digit-test, ascii-test)

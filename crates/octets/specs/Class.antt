@@ -34,6 +34,10 @@ marks = 0x21 ∷ 0x23 ∷ 0x24 ∷ 0x25 ∷ 0x26 ∷ 0x27 ∷ 0x2A ∷ 0x2B ∷ 
 unfoldable pub isToken : ℕ → Bool
 isToken b = isDigit b || within 0x41 0x5A b || within 0x61 0x7A b || among marks b
 
+-- visible ASCII
+unfoldable pub isVisible : ℕ → Bool
+isVisible b = within 0x21 0x7E b
+
 -- a byte of a request target: visible ASCII, or from 0x80 on
 unfoldable pub isTarget : ℕ → Bool
 isTarget b = within 0x21 0x7E b || within 0x80 0xFF b

@@ -5,7 +5,7 @@ use mathlib.Core.Path.{_≡_, refl, sym, ap, _∙_}
 use mathlib.Core.Bool.{Bool, true, false, false≢true}
 use lib.Dec.{eqb}
 use borrow.Author.Tests.{ne-eqb}
-use Rattle.octets.specs.Class.{among, within, isBlank, isDigit, isHexDigit, isTarget, isToken, isValue}
+use Rattle.octets.specs.Class.{among, within, isBlank, isDigit, isHexDigit, isTarget, isToken, isValue, isVisible}
 
 -- a byte of a class is no byte that is not of it
 pub differs : (class : ℕ → Bool) {b c : ℕ} → class c ≡ false → class b ≡ true → b ≡ c → ⊥
@@ -29,6 +29,10 @@ space-no-token = refl
 pub colon-no-token : isToken 0x3A ≡ false
 unfolding isToken isDigit within among
 colon-no-token = refl
+
+pub space-not-visible : isVisible 0x20 ≡ false
+unfolding isVisible within
+space-not-visible = refl
 
 pub space-no-target : isTarget 0x20 ≡ false
 unfolding isTarget within

@@ -7,8 +7,8 @@ use mathlib.Core.List.{List, [], _∷_}
 use mathlib.Core.Bool.{Bool, true, false, _&&_, _||_, false≢true, and-false}
 use lib.Dec.{leb, eqb}
 use borrow.Author.Tests.{leb-true, le-leb, lt-leb, eqb-true}
-use Rattle.octets.specs.Grammar.{Range, ALPHA, DIGIT, HEXDIG, field-vchar, tchar, blank, text}
-use Rattle.octets.specs.Class.{among, within, marks, isBlank, isDigit, isHexDigit, isTarget, isToken, isValue}
+use Rattle.octets.specs.Grammar.{Range, ALPHA, DIGIT, HEXDIG, VCHAR, field-vchar, tchar, blank, text}
+use Rattle.octets.specs.Class.{among, within, marks, isBlank, isDigit, isHexDigit, isTarget, isToken, isValue, isVisible}
 
 -- what each of two tests shows, either of them shows; and the other way round
 either : {P : Type 0} (s t : Bool) → (s ≡ true → P) → (t ≡ true → P) → (s || t) ≡ true → P
@@ -123,6 +123,10 @@ token-class (tchar.letter {b = b} (ALPHA.small r)) = left _ _ (right (isDigit b 
 
 pub token-is-tchar : (b : ℕ) → (isToken b ≡ true) ↔ tchar b
 token-is-tchar b = (token-rule b, token-class)
+
+pub visible-is-VCHAR : (b : ℕ) → (isVisible b ≡ true) ↔ VCHAR b
+unfolding isVisible
+visible-is-VCHAR b = (in-range 0x21 0x7E b, range-in 0x21 0x7E b)
 
 target-rule : (b : ℕ) → isTarget b ≡ true → field-vchar b
 unfolding isTarget

@@ -1,6 +1,6 @@
 // The classes of bytes that a head is read by, each as a test.
 ghost use mathlib.Core.Path.{_≡_};
-ghost use Rattle.octets.specs.Class.{isAscii, isBlank, isDigit, isHexDigit, isTarget, isToken, isValue};
+ghost use Rattle.octets.specs.Class.{isAscii, isBlank, isDigit, isHexDigit, isTarget, isToken, isValue, isVisible};
 
 // A bit for each token byte below 64, and for each from 64 to 127: a table would be made anew on the stack at each call.
 const TOKEN_LOW: u64 = 0x03ff_6cfa_0000_0000;
@@ -12,6 +12,12 @@ pub fn is_token(b: u8) -> bool
 {
     let half = if b < 64 { TOKEN_LOW } else { TOKEN_HIGH };
     (b < 128) & ((half >> (b % 64)) % 2 == 1)
+}
+
+pub fn is_visible(b: u8) -> bool
+    ensures { λ r. ⌜ r ≡ isVisible b ⌝ }
+{
+    (b > 32) & (b < 127)
 }
 
 pub fn is_target(b: u8) -> bool

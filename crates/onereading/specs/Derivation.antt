@@ -6,10 +6,10 @@ use mathlib.Core.Path.{_≡_, refl, sym, ap, subst, _∙_}
 use mathlib.Core.List.{List, _++_}
 use lib.ListN.{length, take, drop}
 use lib.Seq.{take-at, drop-at}
-use Rattle.reader.specs.Tests.{never}
+use Rattle.reader.specs.Tests.{clash}
 use Rattle.reader.specs.Machine.{gave, run}
 use Rattle.reader.specs.Answer.{got}
-use Rattle.rules.specs.Rules.{default}
+use Rattle.rules.specs.Rules.{Rules, default}
 use Rattle.grammar.specs.Fields.{Field}
 use Rattle.grammar.specs.Message.{Version, HTTP-version, one-zero, one-one, RequestLine, request-head, status-code, StatusLine, status-line, response-head}
 use Rattle.grammar.specs.Message as grammar
@@ -27,6 +27,7 @@ use Rattle.agreement.specs.Fields.{fieldsOf}
 use Rattle.agreement.specs.Known.{Holds, Counts, RequestSays, StatusSays}
 use Rattle.agreement.specs.Promises.{block-alone}
 use Rattle.agreement.specs.Exactly.{Exactly}
+use Rattle.agreement.specs.Starts.{Fixed}
 use Rattle.agreement.specs.Calls.{request-exactly, response-exactly, headersOf, headers-exactly}
 use Rattle.agreement.specs.ChunkRead.{chunk-read}
 use Rattle.onereading.specs.Statements.{OneHead, OneChunk}
@@ -62,47 +63,47 @@ counts-same : (a : KnownNumber) {m n : ℕ} → Counts a m → Counts a n → m 
 counts-same (numbers.Is a) h i = sym h ∙ i
 counts-same numbers.NotYet h i = absurd h
 
--- under default the major number is 1, the minor one a digit, and a code has three digits
-version-one : {w : List ℕ} {v : Version} → HTTP-version default w v → (v .major ≡ 1) × (v .minor ≤ 9)
-version-one one-zero = (refl, omega arith)
-version-one one-one = (refl, omega arith)
-version-one (grammar.HTTP-version.other t a b) = never cc
+-- where versions are known the major number is 1, the minor one a digit, and a code has three digits
+version-one : {r : Rules} {w : List ℕ} {v : Version} → Fixed r → HTTP-version r w v → (v .major ≡ 1) × (v .minor ≤ 9)
+version-one fixed one-zero = (refl, omega arith)
+version-one fixed one-one = (refl, omega arith)
+version-one fixed (grammar.HTTP-version.other t a b) = absurd (clash (fixed .known-versions) t)
 
-three-digits : {w : List ℕ} {n : ℕ} → status-code default w n → n ≤ 999
+three-digits : {r : Rules} {w : List ℕ} {n : ℕ} → status-code r w n → n ≤ 999
 three-digits (grammar.status-code.class x y z) = omega (arith, x .high, y .high, z .high)
 three-digits (grammar.status-code.any t x y z) = omega (arith, x .high, y .high, z .high)
 
-pub request-one : {w : List ℕ} {l : RequestLine} {fs : List Field} → request-head default w l fs → (l .version .major ≡ 1) × (l .version .minor ≤ 9)
-request-one (grammar.head.message e (grammar.request-line.line m t v) c b) = version-one v
+pub request-one : {r : Rules} {w : List ℕ} {l : RequestLine} {fs : List Field} → Fixed r → request-head r w l fs → (l .version .major ≡ 1) × (l .version .minor ≤ 9)
+request-one fixed (grammar.head.message e (grammar.request-line.line m t v) c b) = version-one fixed v
 
-status-one : {w : List ℕ} {l : StatusLine} → status-line default w l → (l .version .major ≡ 1) × (l .version .minor ≤ 9) × (l .code ≤ 999)
-status-one (grammar.status-line.reason v c x) = let u = version-one v in (u .0, u .1, three-digits c)
-status-one (grammar.status-line.no-reason v c) = let u = version-one v in (u .0, u .1, three-digits c)
-status-one (grammar.status-line.code-ends t v c) = let u = version-one v in (u .0, u .1, three-digits c)
+status-one : {r : Rules} {w : List ℕ} {l : StatusLine} → Fixed r → status-line r w l → (l .version .major ≡ 1) × (l .version .minor ≤ 9) × (l .code ≤ 999)
+status-one fixed (grammar.status-line.reason v c x) = let u = version-one fixed v in (u .0, u .1, three-digits c)
+status-one fixed (grammar.status-line.no-reason v c) = let u = version-one fixed v in (u .0, u .1, three-digits c)
+status-one fixed (grammar.status-line.code-ends t v c) = let u = version-one fixed v in (u .0, u .1, three-digits c)
 
-pub response-one : {w : List ℕ} {l : StatusLine} {fs : List Field} → response-head default w l fs → (l .version .major ≡ 1) × (l .version .minor ≤ 9) × (l .code ≤ 999)
-response-one (grammar.head.message e k c b) = status-one k
+pub response-one : {r : Rules} {w : List ℕ} {l : StatusLine} {fs : List Field} → Fixed r → response-head r w l fs → (l .version .major ≡ 1) × (l .version .minor ≤ 9) × (l .code ≤ 999)
+response-one fixed (grammar.head.message e k c b) = status-one fixed k
 
 version-same : (u v : Version) → u .major ≡ 1 → v .major ≡ 1 → u .minor ≡ v .minor → u ≡ v
 version-same u v h i e = ap (λ y. record { major = y; minor = u .minor }) (h ∙ sym i) ∙ ap (λ y. record { major = v .major; minor = y }) e
 
 -- the heads of two requests that begin the same bytes
-pub one-request : OneHead (request-head default)
-one-request = one-head (request default) request-exactly one-line
+pub one-request : {r : Rules} → Fixed r → OneHead (request-head r)
+one-request {r} fixed = one-head (request r) (request-exactly fixed) one-line
   where
-    one-line : (v w : List ℕ) (l m : RequestLine) (fs gs : List Field) → request-head default v l fs → request-head default w m gs → (z : List ℕ) (k : told.RequestLine) → RequestSays z k l → RequestSays z k m → l ≡ m
+    one-line : (v w : List ℕ) (l m : RequestLine) (fs gs : List Field) → request-head r v l fs → request-head r w m gs → (z : List ℕ) (k : told.RequestLine) → RequestSays z k l → RequestSays z k m → l ≡ m
     one-line v w l m fs gs h i z k a b =
         ap (λ y. record { method = y; target = l .target; version = l .version }) (holds-same z (k .method) (a .method) (b .method))
         ∙ ap (λ y. record { method = m .method; target = y; version = l .version }) (holds-same z (k .target) (a .target) (b .target))
-        ∙ ap (λ y. record { method = m .method; target = m .target; version = y }) (version-same (l .version) (m .version) (request-one h .0) (request-one i .0) (counts-same (k .version) (a .version) (b .version)))
+        ∙ ap (λ y. record { method = m .method; target = m .target; version = y }) (version-same (l .version) (m .version) (request-one fixed h .0) (request-one fixed i .0) (counts-same (k .version) (a .version) (b .version)))
 
 -- of two responses
-pub one-response : OneHead (response-head default)
-one-response = one-head (response default) response-exactly one-line
+pub one-response : {r : Rules} → Fixed r → OneHead (response-head r)
+one-response {r} fixed = one-head (response r) (response-exactly fixed) one-line
   where
-    one-line : (v w : List ℕ) (l m : StatusLine) (fs gs : List Field) → response-head default v l fs → response-head default w m gs → (z : List ℕ) (k : told-status.StatusLine) → StatusSays z k l → StatusSays z k m → l ≡ m
+    one-line : (v w : List ℕ) (l m : StatusLine) (fs gs : List Field) → response-head r v l fs → response-head r w m gs → (z : List ℕ) (k : told-status.StatusLine) → StatusSays z k l → StatusSays z k m → l ≡ m
     one-line v w l m fs gs h i z k a b =
-        ap (λ y. record { version = y; code = l .code; reason = l .reason }) (version-same (l .version) (m .version) (response-one h .0) (response-one i .0) (counts-same (k .version) (a .version) (b .version)))
+        ap (λ y. record { version = y; code = l .code; reason = l .reason }) (version-same (l .version) (m .version) (response-one fixed h .0) (response-one fixed i .0) (counts-same (k .version) (a .version) (b .version)))
         ∙ ap (λ y. record { version = m .version; code = y; reason = l .reason }) (counts-same (k .code) (a .code) (b .code))
         ∙ ap (λ y. record { version = m .version; code = m .code; reason = y }) (holds-same z (k .reason) (a .reason) (b .reason))
 

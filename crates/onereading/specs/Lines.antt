@@ -14,7 +14,7 @@ use Rattle.parts.specs.LineEnd.{begin, lineEndStep, lineEnd}
 use Rattle.parts.specs.EmptyLines.{start, emptyLinesStep}
 use Rattle.words.specs.Word.{wordStep}
 use Rattle.words.specs.Word as words
-use Rattle.words.specs.Target.{targetStep, target}
+use Rattle.words.specs.Target.{targetByte, targetStep, target}
 use Rattle.words.specs.Target as targets
 use Rattle.versions.specs.Version.{name, versionStep, version}
 use Rattle.spaces.specs.Space.{spaceStep, space, behindCodeStep, behindCode}
@@ -84,7 +84,7 @@ module _ (r : Rules) where
     keeps-version m t q = chain-keeps SameRequest (K₂ m t) (requests.withVersion (K₂ m t)) request-refl request-trans (λ v. record { method = refl; target = refl; version = tt }) (requests.fromEnd r z) (λ v i. keeps-end (requests.withVersion (K₂ m t) v) i) (version z q)
 
     keeps-target : (m : Piece) (q : ℕ) → SameRequest (K₁ m) (knownOf (requests.fromTarget r z (K₁ m) q))
-    keeps-target m q = chain-keeps SameRequest (K₁ m) (requests.withTarget (K₁ m)) request-refl request-trans (λ t. record { method = refl; target = tt; version = tt }) (requests.fromVersion r z) (λ t i. keeps-version m t i) (target z q)
+    keeps-target m q = chain-keeps SameRequest (K₁ m) (requests.withTarget (K₁ m)) request-refl request-trans (λ t. record { method = refl; target = tt; version = tt }) (requests.fromVersion r z) (λ t i. keeps-version m t i) (target (targetByte (r .any-target)) z q)
 
   module _ (xs ys : List ℕ) where
     grows-end : (k : RequestLine) (q : ℕ) → SameRequest (knownOf (requests.fromEnd r xs k q)) (knownOf (requests.fromEnd r (xs ++ ys) k q))
@@ -94,7 +94,7 @@ module _ (r : Rules) where
     grows-version m t q = chain-grows SameRequest (K₂ m t) (requests.withVersion (K₂ m t)) request-refl (requests.fromEnd r xs) (requests.fromEnd r (xs ++ ys)) (λ v i. grows-end (requests.withVersion (K₂ m t) v) i) (later nothing versionStep name xs ys q) (keeps-version (xs ++ ys) m t q)
 
     grows-target : (m : Piece) (q : ℕ) → SameRequest (knownOf (requests.fromTarget r xs (K₁ m) q)) (knownOf (requests.fromTarget r (xs ++ ys) (K₁ m) q))
-    grows-target m q = chain-grows SameRequest (K₁ m) (requests.withTarget (K₁ m)) request-refl (requests.fromVersion r xs) (requests.fromVersion r (xs ++ ys)) (λ t i. grows-version m t i) (later nothing targetStep targets.none xs ys q) (keeps-target (xs ++ ys) m q)
+    grows-target m q = chain-grows SameRequest (K₁ m) (requests.withTarget (K₁ m)) request-refl (requests.fromVersion r xs) (requests.fromVersion r (xs ++ ys)) (λ t i. grows-version m t i) (later nothing (targetStep (targetByte (r .any-target))) targets.none xs ys q) (keeps-target (xs ++ ys) m q)
 
     unread-keeps : (l : RequestLine) → SameRequest requests.unread l
     unread-keeps l = record { method = tt; target = tt; version = tt }

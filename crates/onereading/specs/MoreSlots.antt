@@ -104,14 +104,14 @@ module _ (r : Rules) (n n′ : ℕ) (h : n ≤ n′) {K S : Type 0} (m : Step S 
       (subst (Wider (headed (answer known (runAt m s xs 0)) (λ k q. over k (block r n [] xs q)))) (sym (head-parts r n′ m known s xs))
       (headed-wider (answer known (runAt m s xs 0)) (λ k q. over-wider k (block-room r n n′ h xs q))))
 
-module _ (n n′ : ℕ) (h : n ≤ n′) (s : List ℕ) {old old′ : List ℕ} {end end′ : Passed} {count count′ : ℕ} {new new′ : List ℕ} where
-  pub request-roomier : {line line′ : RequestLine} → Told (request default n s) end line count old new → Told (request default n′ s) end′ line′ count′ old′ new′ → MoreSlots end end′ line line′ count count′ old′ new new′
+module _ (r : Rules) (n n′ : ℕ) (h : n ≤ n′) (s : List ℕ) {old old′ : List ℕ} {end end′ : Passed} {count count′ : ℕ} {new new′ : List ℕ} where
+  pub request-roomier : {line line′ : RequestLine} → Told (request r n s) end line count old new → Told (request r n′ s) end′ line′ count′ old′ new′ → MoreSlots end end′ line line′ count count′ old′ new new′
   unfolding request
-  request-roomier T U = wider-told (head-wider default n n′ h (requests.requestLineStep default) requests.lineKnown (first start) s) T U
+  request-roomier T U = wider-told (head-wider r n n′ h (requests.requestLineStep r) requests.lineKnown (first start) s) T U
 
-  pub response-roomier : {line line′ : StatusLine} → Told (response default n s) end line count old new → Told (response default n′ s) end′ line′ count′ old′ new′ → MoreSlots end end′ line line′ count count′ old′ new new′
+  pub response-roomier : {line line′ : StatusLine} → Told (response r n s) end line count old new → Told (response r n′ s) end′ line′ count′ old′ new′ → MoreSlots end end′ line line′ count count′ old′ new new′
   unfolding response
-  response-roomier T U = wider-told (head-wider default n n′ h (statuses.statusLineStep default) statuses.lineKnown (first start) s) T U
+  response-roomier T U = wider-told (head-wider r n n′ h (statuses.statusLineStep r) statuses.lineKnown (first start) s) T U
 
 pub headers-roomier : (n n′ : ℕ) (h : n ≤ n′) (s : List ℕ) {r r′ : Block} {old old′ new new′ : List ℕ} → blocks.Told (block default n [] s 0) r old new → blocks.Told (block default n′ [] s 0) r′ old′ new′ → MoreSlots {K = Unit {0}} (r .end) (r′ .end) tt tt (r .count) (r′ .count) old′ new new′
 headers-roomier n n′ h s T U = wider-told (over-wider {K = Unit {0}} tt (block-room default n n′ h s 0)) (alone-told T) (alone-told U)

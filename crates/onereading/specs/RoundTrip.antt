@@ -23,11 +23,12 @@ use Rattle.statusline.specs.declared.StatusLine.{StatusLine}
 use Rattle.heads.specs.declared.RequestHead.{RequestHead}
 use Rattle.heads.specs.declared.ResponseHead.{ResponseHead}
 use Rattle.blocks.specs.declared.Block.{Block}
+use Rattle.agreement.specs.Starts.{Fixed, default-fixed}
 use Rattle.agreement.specs.Known.{Holds, Counts, RequestSays, StatusSays, Inside, RequestInside, StatusInside, fieldsIn}
 use Rattle.agreement.specs.Kept.{fields-counted}
 use Rattle.agreement.specs.Promises.{HeadPromise, block-alone, says-nothing, lies-nowhere}
 use Rattle.plain.specs.Plain.{plain-code, plain-request, plain-response, plain-fields}
-use Rattle.plain.specs.Derived.{plain-block, plain-request-derived, plain-request-strict, plain-response-derived, plain-response-strict}
+use Rattle.plain.specs.Derived.{plain-block, plain-request-under, target-default, plain-request-strict, plain-response-derived, plain-response-strict}
 use Rattle.startline.specs.Answers.{numberOf}
 use Rattle.plain.specs.Short.{request-short, response-short, block-short}
 use Rattle.places.specs.Lies.{bytesOf, one-point, requestOf, statusOf, Complete, Lies, AtMost, RequestLies, ResponseLies, BlockLies}
@@ -37,9 +38,10 @@ use Rattle.writer.specs.Promise.{request-form, response-form, block-form, Plain
 use Rattle.onereading.specs.Statements.{CanBeWritten, ReadBack, WrittenAgain}
 use Rattle.onereading.specs.Derivation.{request-one, response-one}
 
--- a kind of head: how a call tells its line, what is told, and the plain form of it
-module _ {L K : Type 0} {Head : List ℕ → L → List Field → Type 0} {Says : List ℕ → K → L → Type 0} {In : List ℕ → K → Type 0} (told : List ℕ → K → L) (plain : L → List Field → List ℕ)
-    (told-said : (z : List ℕ) (k : K) (w : List ℕ) (l : L) (fs : List Field) → Head w l fs → Says z k l → told z k ≡ l) (derived : (w : List ℕ) (l : L) (fs : List Field) → Head w l fs → Head (plain l fs) l fs) where
+-- a kind of head, by the rules of the first call and (with a prime) of the second: how a call tells its line, what is told, and the plain
+-- form of it
+module _ {L K : Type 0} {Head Head′ : List ℕ → L → List Field → Type 0} {Says : List ℕ → K → L → Type 0} {In : List ℕ → K → Type 0} (told : List ℕ → K → L) (plain : L → List Field → List ℕ) (told-said : (z : List ℕ) (k : K) (w : List ℕ) (l : L) (fs : List Field) → Head w l fs → Says z k l → told z k ≡ l)
+    (told-said′ : (z : List ℕ) (k : K) (w : List ℕ) (l : L) (fs : List Field) → Head′ w l fs → Says z k l → told z k ≡ l) (derived : (w : List ℕ) (l : L) (fs : List Field) → Head w l fs → Head′ (plain l fs) l fs) where
   -- a call is complete
   module _ {s old : List ℕ} {end : Passed} {line : K} {count : ℕ} {new : List ℕ} (P : HeadPromise Head Says In s old end line count new) {q : ℕ} (e : end ≡ At q) where
     abbrev form : List ℕ
@@ -48,10 +50,10 @@ module _ {L K : Type 0} {Head : List ℕ → L → List Field → Type 0} {Says 
     said : told s line ≡ P .complete q e .said
     said = let H = P .complete q e in told-said s line (H .bytes) (H .said) (fieldsIn s count new) (H .head) (H .says)
 
-    form-derived : Head form (told s line) (fieldsIn s count new)
+    form-derived : Head′ form (told s line) (fieldsIn s count new)
     form-derived =
         let H = P .complete q e in
-        subst (λ y. Head (plain y (fieldsIn s count new)) y (fieldsIn s count new)) (sym said) (derived (H .bytes) (H .said) (fieldsIn s count new) (H .head))
+        subst (λ y. Head′ (plain y (fieldsIn s count new)) y (fieldsIn s count new)) (sym said) (derived (H .bytes) (H .said) (fieldsIn s count new) (H .head))
 
     -- with room its plain form is written, and without it is asked for, since it is at most twice as long as what was read
     can-write : ((w : List ℕ) (l : L) (fs : List Field) → Head w l fs → length (plain l fs) ≤ length w * 2) → {Writable : Type 0} {out : List ℕ} {r : Writing} {out′ : List ℕ} → PlainPromise s Writable form out r out′ → Writable → CanBeWritten form out r
@@ -65,12 +67,12 @@ module _ {L K : Type 0} {Head : List ℕ → L → List Field → Type 0} {Says 
       bytes-written : take n out′ ≡ form
       bytes-written = let x = was-written W w in ap (take n) (x .3) ∙ take-at form (drop n out) n (sym (x .1))
 
-      module _ (t : List ℕ) {z old′ : List ℕ} {end′ : Passed} {line′ : K} {count′ : ℕ} {new′ : List ℕ} (b : z ≡ take n out′ ++ t) (Q : HeadPromise Head Says In z old′ end′ line′ count′ new′) (room : count ≤ length old′ / 4) where
+      module _ {In′ : List ℕ → K → Type 0} (t : List ℕ) {z old′ : List ℕ} {end′ : Passed} {line′ : K} {count′ : ℕ} {new′ : List ℕ} (b : z ≡ take n out′ ++ t) (Q : HeadPromise Head′ Says In′ z old′ end′ line′ count′ new′) (room : count ≤ length old′ / 4) where
         back : ReadBack Says told s line count new n z end′ line′ count′ new′
         back =
             let x = was-written W w in
             let A = Q .accepts form t (told s line) (fieldsIn s count new) (b ∙ ap (λ y. y ++ t) bytes-written) form-derived (omega (arith, room, fields-counted s count new)) in
-            let l = told-said z line′ form (told s line) (fieldsIn s count new) form-derived (A .1) in
+            let l = told-said′ z line′ form (told s line) (fieldsIn s count new) form-derived (A .1) in
             record {
               end = A .0 ∙ ap At (sym (x .1));
               says-again = A .1;
@@ -109,19 +111,33 @@ reached : {e : Passed} {q : ℕ} → e ≡ At q → Complete e
 reached {q = q} h = subst Complete (sym h) (Complete.at q)
 
 -- requests: a call's promise
-abbrev pub RequestPromise : List ℕ → List ℕ → RequestHead → List ℕ → Type 0
-RequestPromise s old head new = HeadPromise (request-head default) RequestSays RequestInside s old (head .end) (head .line) (head .count) new
+abbrev pub RequestPromise : Rules → List ℕ → List ℕ → RequestHead → List ℕ → Type 0
+RequestPromise r s old head new = HeadPromise (request-head r) RequestSays (RequestInside r) s old (head .end) (head .line) (head .count) new
 
 version-is : (n : ℕ) (v : Version) → v .major ≡ 1 → n ≡ v .minor → one-point n ≡ v
 version-is n v h e = ap (λ y. record { major = y; minor = n }) (sym h) ∙ ap (λ y. record { major = v .major; minor = y }) e
 
-pub request-told : (z : List ℕ) (k : RequestLine) (w : List ℕ) (l : grammar.RequestLine) (fs : List Field) → request-head default w l fs → RequestSays z k l → requestOf z k ≡ l
-request-told z k w l fs h a =
+pub request-told : {r : Rules} → Fixed r → (z : List ℕ) (k : RequestLine) (w : List ℕ) (l : grammar.RequestLine) (fs : List Field) → request-head r w l fs → RequestSays z k l → requestOf z k ≡ l
+request-told fixed z k w l fs h a =
     ap (λ y. record { method = y; target = bytesOf z (k .target); version = one-point (numberOf (k .version)) }) (bytes-held z (k .method) (a .method))
     ∙ ap (λ y. record { method = l .method; target = y; version = one-point (numberOf (k .version)) }) (bytes-held z (k .target) (a .target))
-    ∙ ap (λ y. record { method = l .method; target = l .target; version = y }) (version-is (numberOf (k .version)) (l .version) (request-one h .0) (number-counted (k .version) (a .version)))
+    ∙ ap (λ y. record { method = l .method; target = l .target; version = y }) (version-is (numberOf (k .version)) (l .version) (request-one fixed h .0) (number-counted (k .version) (a .version)))
 
-module _ {s old : List ℕ} {head : RequestHead} {new : List ℕ} (P : RequestPromise s old head new) {q : ℕ} (e : head .end ≡ At q) where
+-- the second reading takes the targets of the first: the default takes those of all rules, and any rules their own
+abbrev pub Takes : Rules → Rules → Type 0
+Takes r r′ = (t : List ℕ) → request-target r t → request-target r′ t
+
+pub default-takes : {r : Rules} → Takes r default
+default-takes t = target-default
+
+pub own-takes : {r : Rules} → Takes r r
+own-takes t h = h
+
+module _ {r r′ : Rules} (fixed : Fixed r) (takes : Takes r r′) where
+  request-derived : (w : List ℕ) (l : grammar.RequestLine) (fs : List Field) → request-head r w l fs → request-head r′ (plain-request l fs) l fs
+  request-derived w l fs = plain-request-under (fixed .known-versions) (takes (l .target))
+
+module _ {r : Rules} (fixed : Fixed r) {s old : List ℕ} {head : RequestHead} {new : List ℕ} (P : RequestPromise r s old head new) {q : ℕ} (e : head .end ≡ At q) where
   -- every complete answer can be written
   pub request-writable : RequestLies s head new
   request-writable =
@@ -129,29 +145,33 @@ module _ {s old : List ℕ} {head : RequestHead} {new : List ℕ} (P : RequestPr
       record {
         complete = reached e;
         method = held-lies grammar.method s (head .line .method) (H .said .method) (H .says .method) (P .inside .0 .method);
-        target = held-lies (request-target default) s (head .line .target) (H .said .target) (H .says .target) (P .inside .0 .target);
-        version = counted-most 9 (head .line .version) (H .says .version) (request-one (H .head) .1);
+        target = held-lies (request-target r) s (head .line .target) (H .said .target) (H .says .target) (P .inside .0 .target);
+        version = counted-most 9 (head .line .version) (H .says .version) (request-one fixed (H .head) .1);
         headers = record { room = omega (arith, P .within .0, P .within .1); inside = P .inside .1 };
       }
 
-  pub request-written : {out : List ℕ} {r : Writing} {out′ : List ℕ} → PlainPromise s (RequestLies s head new) (request-form s head new) out r out′ → CanBeWritten (request-form s head new) out r
-  request-written W = can-write requestOf plain-request request-told (λ w l fs. plain-request-derived refl) P e (λ w l fs. request-short) W request-writable
+  pub request-written : {out : List ℕ} {x : Writing} {out′ : List ℕ} → PlainPromise s (RequestLies s head new) (request-form s head new) out x out′ → CanBeWritten (request-form s head new) out x
+  request-written W = can-write requestOf plain-request (request-told fixed) (request-told default-fixed) (request-derived fixed default-takes) P e (λ w l fs. request-short) W request-writable
 
-  -- what is written is a head under default with the same fields, and under strict if the target is strict
-  pub request-plain : request-head default (request-form s head new) (requestOf s (head .line)) (fieldsIn s (head .count) new)
-  request-plain = form-derived requestOf plain-request request-told (λ w l fs. plain-request-derived refl) P e
+  -- what is written is a head under all rules that take its target, with the same fields: under default, under the same, and under strict if
+  -- the target is strict
+  pub request-plain : {r′ : Rules} → Takes r r′ → request-head r′ (request-form s head new) (requestOf s (head .line)) (fieldsIn s (head .count) new)
+  request-plain {r′} takes =
+      let H = P .complete q e in
+      let fs : List Field = fieldsIn s (head .count) new in
+      subst (λ y. request-head r′ (plain-request y fs) y fs) (sym (request-told fixed s (head .line) (H .bytes) (H .said) fs (H .head) (H .says))) (request-derived fixed takes (H .bytes) (H .said) fs (H .head))
 
   pub request-plain-strict : request-target strict (requestOf s (head .line) .target) → request-head strict (request-form s head new) (requestOf s (head .line)) (fieldsIn s (head .count) new)
-  request-plain-strict t = plain-request-strict request-plain t
+  request-plain-strict t = plain-request-strict (request-plain default-takes) t
 
-module _ {s old : List ℕ} {head : RequestHead} {new : List ℕ} (P : RequestPromise s old head new) {q : ℕ} (e : head .end ≡ At q) {Writable : Type 0} {out : List ℕ} {r : Writing} {out′ : List ℕ} {n : ℕ} (W : PlainPromise s Writable (request-form s head new) out r out′) (w : r ≡ Written n) (t : List ℕ) {z old′ : List ℕ} {head′ : RequestHead} {new′ : List ℕ} (b : z ≡ take n out′ ++ t) (Q : RequestPromise z old′ head′ new′) (room : head .count ≤ length old′ / 4) where
+module _ {r r′ : Rules} (fixed : Fixed r) (fixed′ : Fixed r′) (takes : Takes r r′) {s old : List ℕ} {head : RequestHead} {new : List ℕ} (P : RequestPromise r s old head new) {q : ℕ} (e : head .end ≡ At q) {Writable : Type 0} {out : List ℕ} {x : Writing} {out′ : List ℕ} {n : ℕ} (W : PlainPromise s Writable (request-form s head new) out x out′) (w : x ≡ Written n) (t : List ℕ) {z old′ : List ℕ} {head′ : RequestHead} {new′ : List ℕ} (b : z ≡ take n out′ ++ t) (Q : RequestPromise r′ z old′ head′ new′) (room : head .count ≤ length old′ / 4) where
   -- a call on the bytes written, with anything behind them, is complete at their end and gives the same fields back
   pub request-back : ReadBack RequestSays requestOf s (head .line) (head .count) new n z (head′ .end) (head′ .line) (head′ .count) new′
-  request-back = back requestOf plain-request request-told (λ w l fs. plain-request-derived refl) P e W w t b Q room
+  request-back = back requestOf plain-request (request-told fixed) (request-told fixed′) (request-derived fixed takes) P e W w t b Q room
 
   -- what was read back is written as the same bytes
   pub request-again : {out₂ : List ℕ} {r₂ : Writing} {out₂′ : List ℕ} → PlainPromise z (RequestLies z head′ new′) (request-form z head′ new′) out₂ r₂ out₂′ → n ≤ length out₂ → WrittenAgain n out′ r₂ out₂′
-  request-again X h = again requestOf plain-request request-told (λ w l fs. plain-request-derived refl) P e W w t b Q room X (request-writable Q (request-back .end)) h
+  request-again X h = again requestOf plain-request (request-told fixed) (request-told fixed′) (request-derived fixed takes) P e W w t b Q room X (request-writable fixed′ Q (request-back .end)) h
 
 -- responses
 abbrev pub ResponsePromise : List ℕ → List ℕ → ResponseHead → List ℕ → Type 0
@@ -159,7 +179,7 @@ ResponsePromise s old head new = HeadPromise (response-head default) StatusSays 
 
 pub status-told : (z : List ℕ) (k : StatusLine) (w : List ℕ) (l : grammar.StatusLine) (fs : List Field) → response-head default w l fs → StatusSays z k l → statusOf z k ≡ l
 status-told z k w l fs h a =
-    ap (λ y. record { version = y; code = numberOf (k .code); reason = bytesOf z (k .reason) }) (version-is (numberOf (k .version)) (l .version) (response-one h .0) (number-counted (k .version) (a .version)))
+    ap (λ y. record { version = y; code = numberOf (k .code); reason = bytesOf z (k .reason) }) (version-is (numberOf (k .version)) (l .version) (response-one default-fixed h .0) (number-counted (k .version) (a .version)))
     ∙ ap (λ y. record { version = l .version; code = y; reason = bytesOf z (k .reason) }) (number-counted (k .code) (a .code))
     ∙ ap (λ y. record { version = l .version; code = l .code; reason = y }) (bytes-held z (k .reason) (a .reason))
 
@@ -168,7 +188,7 @@ module _ {s old : List ℕ} {head : ResponseHead} {new : List ℕ} (P : Response
   pub response-writable : ResponseLies s head new
   response-writable =
       let H = P .complete q e in
-      let d = response-one (H .head) in
+      let d = response-one default-fixed (H .head) in
       record {
         complete = reached e;
         version = counted-most 9 (head .line .version) (H .says .version) (d .1);
@@ -178,11 +198,11 @@ module _ {s old : List ℕ} {head : ResponseHead} {new : List ℕ} (P : Response
       }
 
   pub response-written : {out : List ℕ} {r : Writing} {out′ : List ℕ} → PlainPromise s (ResponseLies s head new) (response-form s head new) out r out′ → CanBeWritten (response-form s head new) out r
-  response-written W = can-write statusOf plain-response status-told (λ w l fs. plain-response-derived refl refl) P e (λ w l fs. response-short) W response-writable
+  response-written W = can-write statusOf plain-response status-told status-told (λ w l fs. plain-response-derived refl refl) P e (λ w l fs. response-short) W response-writable
 
   -- what is written is a head under default with the same fields, and under strict if the code is strict
   pub response-plain : response-head default (response-form s head new) (statusOf s (head .line)) (fieldsIn s (head .count) new)
-  response-plain = form-derived statusOf plain-response status-told (λ w l fs. plain-response-derived refl refl) P e
+  response-plain = form-derived statusOf plain-response status-told status-told (λ w l fs. plain-response-derived refl refl) P e
 
   pub response-plain-strict : status-code strict (plain-code (statusOf s (head .line) .code)) (statusOf s (head .line) .code) → response-head strict (response-form s head new) (statusOf s (head .line)) (fieldsIn s (head .count) new)
   response-plain-strict c = plain-response-strict response-plain c
@@ -190,11 +210,11 @@ module _ {s old : List ℕ} {head : ResponseHead} {new : List ℕ} (P : Response
 module _ {s old : List ℕ} {head : ResponseHead} {new : List ℕ} (P : ResponsePromise s old head new) {q : ℕ} (e : head .end ≡ At q) {Writable : Type 0} {out : List ℕ} {r : Writing} {out′ : List ℕ} {n : ℕ} (W : PlainPromise s Writable (response-form s head new) out r out′) (w : r ≡ Written n) (t : List ℕ) {z old′ : List ℕ} {head′ : ResponseHead} {new′ : List ℕ} (b : z ≡ take n out′ ++ t) (Q : ResponsePromise z old′ head′ new′) (room : head .count ≤ length old′ / 4) where
   -- a call on the bytes written, with anything behind them, is complete at their end and gives the same fields back
   pub response-back : ReadBack StatusSays statusOf s (head .line) (head .count) new n z (head′ .end) (head′ .line) (head′ .count) new′
-  response-back = back statusOf plain-response status-told (λ w l fs. plain-response-derived refl refl) P e W w t b Q room
+  response-back = back statusOf plain-response status-told status-told (λ w l fs. plain-response-derived refl refl) P e W w t b Q room
 
   -- what was read back is written as the same bytes
   pub response-again : {out₂ : List ℕ} {r₂ : Writing} {out₂′ : List ℕ} → PlainPromise z (ResponseLies z head′ new′) (response-form z head′ new′) out₂ r₂ out₂′ → n ≤ length out₂ → WrittenAgain n out′ r₂ out₂′
-  response-again X h = again statusOf plain-response status-told (λ w l fs. plain-response-derived refl refl) P e W w t b Q room X (response-writable Q (response-back .end)) h
+  response-again X h = again statusOf plain-response status-told status-told (λ w l fs. plain-response-derived refl refl) P e W w t b Q room X (response-writable Q (response-back .end)) h
 
 -- headers alone
 abbrev pub BlockPromise : List ℕ → List ℕ → Block → List ℕ → Type 0
@@ -206,7 +226,7 @@ module _ {s old : List ℕ} {block : Block} {new : List ℕ} (P : BlockPromise s
   headers-writable = record { complete = reached e; headers = record { room = omega (arith, P .within .0, P .within .1); inside = P .inside .1 } }
 
   pub headers-written : {out : List ℕ} {r : Writing} {out′ : List ℕ} → PlainPromise s (BlockLies s block new) (block-form s block new) out r out′ → CanBeWritten (block-form s block new) out r
-  headers-written W = can-write (λ z k. k) (λ l fs. plain-fields fs) (λ z k w l fs h a. refl) (λ w l fs. plain-block) P e (λ w l fs. block-short) W headers-writable
+  headers-written W = can-write {Head′ = block-alone} (λ z k. k) (λ l fs. plain-fields fs) (λ z k w l fs h a. refl) (λ z k w l fs h a. refl) (λ w l fs. plain-block) P e (λ w l fs. block-short) W headers-writable
 
   -- what is written is a block under strict with the same fields, and so under all rules
   pub headers-plain : (rules : Rules) → header-block rules (block-form s block new) (fieldsIn s (block .count) new)
@@ -215,8 +235,8 @@ module _ {s old : List ℕ} {block : Block} {new : List ℕ} (P : BlockPromise s
 module _ {s old : List ℕ} {block : Block} {new : List ℕ} (P : BlockPromise s old block new) {q : ℕ} (e : block .end ≡ At q) {Writable : Type 0} {out : List ℕ} {r : Writing} {out′ : List ℕ} {n : ℕ} (W : PlainPromise s Writable (block-form s block new) out r out′) (w : r ≡ Written n) (t : List ℕ) {z old′ : List ℕ} {block′ : Block} {new′ : List ℕ} (b : z ≡ take n out′ ++ t) (Q : BlockPromise z old′ block′ new′) (room : block .count ≤ length old′ / 4) where
   -- a call on the bytes written, with anything behind them, is complete at their end and gives the same fields back
   pub headers-back : ReadBack {L = Unit {0}} {K = Unit {0}} says-nothing (λ z k. k) s tt (block .count) new n z (block′ .end) tt (block′ .count) new′
-  headers-back = back (λ z k. k) (λ l fs. plain-fields fs) (λ z k w l fs h a. refl) (λ w l fs. plain-block) P e W w t b Q room
+  headers-back = back (λ z k. k) (λ l fs. plain-fields fs) (λ z k w l fs h a. refl) (λ z k w l fs h a. refl) (λ w l fs. plain-block) P e W w t b Q room
 
   -- what was read back is written as the same bytes
   pub headers-again : {out₂ : List ℕ} {r₂ : Writing} {out₂′ : List ℕ} → PlainPromise z (BlockLies z block′ new′) (block-form z block′ new′) out₂ r₂ out₂′ → n ≤ length out₂ → WrittenAgain n out′ r₂ out₂′
-  headers-again X h = again (λ z k. k) (λ l fs. plain-fields fs) (λ z k w l fs h a. refl) (λ w l fs. plain-block) P e W w t b Q room X (headers-writable Q (headers-back .end)) h
+  headers-again X h = again (λ z k. k) (λ l fs. plain-fields fs) (λ z k w l fs h a. refl) (λ z k w l fs h a. refl) (λ w l fs. plain-block) P e W w t b Q room X (headers-writable Q (headers-back .end)) h

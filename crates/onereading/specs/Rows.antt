@@ -6,12 +6,13 @@ use mathlib.Core.Path.{_≡_, refl, sym, ap, subst, _∙_}
 use mathlib.Core.List.{List, [], _∷_, _++_, append-assoc, append-nil}
 use lib.ListN.{length, take, drop, length-append}
 use lib.Seq.{take-at}
-use Rattle.rules.specs.Rules.{default}
+use Rattle.rules.specs.Rules.{Rules}
 use Rattle.grammar.specs.Fields.{Field}
 use Rattle.grammar.specs.Message.{request-head, response-head}
 use Rattle.lengths.specs.Lengths.{head-long}
 use Rattle.heads.specs.Head.{Heads}
 use Rattle.heads.specs.Calls.{request, response}
+use Rattle.agreement.specs.Starts.{Fixed}
 use Rattle.rows.specs.declared.Stop.{Stop}
 use Rattle.rows.specs.declared.Stop.the-variants as stops
 use Rattle.rows.specs.Row.{Row, none, more, Fitting, Stopped, all-read, full, unfinished, wrong}
@@ -130,20 +131,21 @@ module _ {L : Type 0} {Head : List ℕ → L → List Field → Type 0} (long : 
           let c = ap length a ∙ length-append (P .heads) ((l, fs) ∷ left) in
           absurd (never-before (P .stopped) w v l fs d z (fitting-behind n (P .heads) ((l, fs) ∷ left) (subst (Fitting n) a f) .0) (omega (arith, h, c, ends-count (P .row), P .count)))
 
-pub one-row-of-requests : OneRow (request-head default)
-one-row-of-requests = one-row (λ w l fs. head-long) one-request
+module _ {r : Rules} (fixed : Fixed r) where
+  pub one-row-of-requests : OneRow (request-head r)
+  one-row-of-requests = one-row (λ w l fs. head-long) (one-request fixed)
 
-pub one-row-of-responses : OneRow (response-head default)
-one-row-of-responses = one-row (λ w l fs. head-long) one-response
+  pub one-row-of-responses : OneRow (response-head r)
+  one-row-of-responses = one-row (λ w l fs. head-long) (one-response fixed)
 
-pub requests-read : ReadsRow (request-head default) (request default)
-requests-read = row-read (λ w l fs. head-long) one-request (request default)
+  pub requests-read : ReadsRow (request-head r) (request r)
+  requests-read = row-read (λ w l fs. head-long) (one-request fixed) (request r)
 
-pub responses-read : ReadsRow (response-head default) (response default)
-responses-read = row-read (λ w l fs. head-long) one-response (response default)
+  pub responses-read : ReadsRow (response-head r) (response r)
+  responses-read = row-read (λ w l fs. head-long) (one-response fixed) (response r)
 
-pub requests-first : ReadsFirst (request-head default) (request default)
-requests-first = row-first (λ w l fs. head-long) one-request (request default)
+  pub requests-first : ReadsFirst (request-head r) (request r)
+  requests-first = row-first (λ w l fs. head-long) (one-request fixed) (request r)
 
-pub responses-first : ReadsFirst (response-head default) (response default)
-responses-first = row-first (λ w l fs. head-long) one-response (response default)
+  pub responses-first : ReadsFirst (response-head r) (response r)
+  responses-first = row-first (λ w l fs. head-long) (one-response fixed) (response r)

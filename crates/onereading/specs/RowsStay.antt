@@ -8,7 +8,7 @@ use lib.ListN.{length, take, drop, length-append}
 use lib.Seq.{take-at}
 use Rattle.reader.specs.Tests.{never}
 use Rattle.reader.specs.Answer.{bad}
-use Rattle.rules.specs.Rules.{default}
+use Rattle.rules.specs.Rules.{Rules}
 use Rattle.grammar.specs.Fields.{Field}
 use Rattle.grammar.specs.Message.{request-head, response-head}
 use Rattle.lengths.specs.Lengths.{head-long}
@@ -16,6 +16,7 @@ use Rattle.parts.specs.declared.Error.{Error}
 use Rattle.parts.specs.declared.Passed.the-variants.{Bad}
 use Rattle.heads.specs.Head.{Heads, Known}
 use Rattle.heads.specs.Calls.{request, response}
+use Rattle.agreement.specs.Starts.{Fixed}
 use Rattle.agreement.specs.Calls.{request-exactly, response-exactly}
 use Rattle.rows.specs.declared.RowRead.{RowRead}
 use Rattle.rows.specs.declared.Stop.{Stop}
@@ -99,8 +100,8 @@ module _ {L K : Type 0} {Head : List ℕ → L → List Field → Type 0} {read 
               let x : read n (Q .rest) ≡ bad (e, W .ends .0) = ap (read n) (sym j) ∙ stays n (P .rest) t (e, W .ends .0) (sym (W .ends .1)) in
               (stops-wrong (Q .stopped) x (omega (arith, W .long, ap length j, length-append (P .rest) t)) (omega (arith, c, W .room-left, room)), Q .end ∙ ap length (sym i) ∙ sym (P .end), c)
 
-pub requests-stay : (n : ℕ) (s t : List ℕ) {slots slots₂ old old₂ left left₂ new new₂ : List ℕ} {r r₂ : RowRead} → RowPromise (request-head default) (request default) n s slots old r left new → RowPromise (request-head default) (request default) n (s ++ t) slots₂ old₂ r₂ left₂ new₂ → length old ≤ length old₂ → RowStays r r₂ new new₂
-requests-stay = row-stays (λ w l fs. head-long) one-request (λ n. request-exactly n .stays)
+pub requests-stay : {rules : Rules} → Fixed rules → (n : ℕ) (s t : List ℕ) {slots slots₂ old old₂ left left₂ new new₂ : List ℕ} {r r₂ : RowRead} → RowPromise (request-head rules) (request rules) n s slots old r left new → RowPromise (request-head rules) (request rules) n (s ++ t) slots₂ old₂ r₂ left₂ new₂ → length old ≤ length old₂ → RowStays r r₂ new new₂
+requests-stay fixed = row-stays (λ w l fs. head-long) (one-request fixed) (λ n. request-exactly fixed n .stays)
 
-pub responses-stay : (n : ℕ) (s t : List ℕ) {slots slots₂ old old₂ left left₂ new new₂ : List ℕ} {r r₂ : RowRead} → RowPromise (response-head default) (response default) n s slots old r left new → RowPromise (response-head default) (response default) n (s ++ t) slots₂ old₂ r₂ left₂ new₂ → length old ≤ length old₂ → RowStays r r₂ new new₂
-responses-stay = row-stays (λ w l fs. head-long) one-response (λ n. response-exactly n .stays)
+pub responses-stay : {rules : Rules} → Fixed rules → (n : ℕ) (s t : List ℕ) {slots slots₂ old old₂ left left₂ new new₂ : List ℕ} {r r₂ : RowRead} → RowPromise (response-head rules) (response rules) n s slots old r left new → RowPromise (response-head rules) (response rules) n (s ++ t) slots₂ old₂ r₂ left₂ new₂ → length old ≤ length old₂ → RowStays r r₂ new new₂
+responses-stay fixed = row-stays (λ w l fs. head-long) (one-response fixed) (λ n. response-exactly fixed n .stays)

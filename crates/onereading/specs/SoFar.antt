@@ -10,7 +10,7 @@ use lib.ListN.{length, take, drop, getD, length-drop, take-append-drop}
 use lib.Seq.{take-append-le, drop-append-le, getD-take, getD-drop}
 use borrow.Author.Tests.{ltb-true, ltb-false}
 use Rattle.reader.specs.Answer.{got, short, bad}
-use Rattle.rules.specs.Rules.{default}
+use Rattle.rules.specs.Rules.{Rules, default}
 use Rattle.grammar.specs.Rows.{Many}
 use Rattle.grammar.specs.Fields.{Field}
 use Rattle.grammar.specs.Message.{request-head, response-head}
@@ -31,6 +31,7 @@ use Rattle.heads.specs.Head.{Heads, Told}
 use Rattle.heads.specs.Calls.{request, response}
 use Rattle.agreement.specs.Known.{Holds, Counts, Inside, fieldsIn, SlotsInside}
 use Rattle.agreement.specs.Promises.{HeadPromise, block-alone, says-nothing}
+use Rattle.agreement.specs.Starts.{Fixed}
 use Rattle.agreement.specs.Calls.{request-promise, response-promise, headers-promise}
 use Rattle.onereading.specs.Statements.{SamePiece, SameNumber, HeadStays, SoFar, PieceAgrees, NumberAgrees, RequestAgrees, StatusAgrees}
 use Rattle.onereading.specs.Stays.{request-stays, response-stays, headers-stays}
@@ -100,28 +101,28 @@ number-agrees : (a b : KnownNumber) (n : ℕ) → SameNumber a b → Counts b n 
 number-agrees (numbers.Is a) b n e h = subst (λ y. Counts y n) e h
 number-agrees numbers.NotYet b n e h = tt
 
-module _ {s old : List ℕ} {end : Passed} {count : ℕ} {new : List ℕ} where
-  pub request-so-far : {line : RequestLine} → Told (request default (length old / 4) s) end line count old new → SoFar (request-head default) RequestAgrees s line count new
+module _ {r : Rules} (fixed : Fixed r) {s old : List ℕ} {end : Passed} {count : ℕ} {new : List ℕ} where
+  pub request-so-far : {line : RequestLine} → Told (request r (length old / 4) s) end line count old new → SoFar (request-head r) RequestAgrees s line count new
   request-so-far T u =
-      let all = virtual (request default (length old / 4) (s ++ u)) old in
+      let all = virtual (request r (length old / 4) (s ++ u)) old in
       so-far-by RequestAgrees
       (λ s u k k′ l i e h. record {
         method = piece-agrees grammar.method s u (k .method) (k′ .method) (l .method) (i .method) (e .method) (h .method);
-        target = piece-agrees (grammar.request-target default) s u (k .target) (k′ .target) (l .target) (i .target) (e .target) (h .target);
+        target = piece-agrees (grammar.request-target r) s u (k .target) (k′ .target) (l .target) (i .target) (e .target) (h .target);
         version = number-agrees (k .version) (k′ .version) (l .version .minor) (e .version) (h .version);
       })
-      s u (request-promise T) (request-promise (all .told)) (request-stays (length old / 4) s u T (all .told))
+      s u (request-promise fixed T) (request-promise fixed (all .told)) (request-stays r (length old / 4) s u T (all .told))
 
-  pub response-so-far : {line : StatusLine} → Told (response default (length old / 4) s) end line count old new → SoFar (response-head default) StatusAgrees s line count new
+  pub response-so-far : {line : StatusLine} → Told (response r (length old / 4) s) end line count old new → SoFar (response-head r) StatusAgrees s line count new
   response-so-far T u =
-      let all = virtual (response default (length old / 4) (s ++ u)) old in
+      let all = virtual (response r (length old / 4) (s ++ u)) old in
       so-far-by StatusAgrees
       (λ s u k k′ l i e h. record {
         version = number-agrees (k .version) (k′ .version) (l .version .minor) (e .version) (h .version);
         code = number-agrees (k .code) (k′ .code) (l .code) (e .code) (h .code);
         reason = piece-agrees (Many grammar.ascii-text) s u (k .reason) (k′ .reason) (l .reason) (i .reason) (e .reason) (h .reason);
       })
-      s u (response-promise T) (response-promise (all .told)) (response-stays (length old / 4) s u T (all .told))
+      s u (response-promise fixed T) (response-promise fixed (all .told)) (response-stays r (length old / 4) s u T (all .told))
 
 -- headers alone: a block that its reader answers
 virtual-block : (b : blocks.Blocks) (old : List ℕ) → (r : Block) × (new : List ℕ) × blocks.Told b r old new

@@ -103,14 +103,14 @@ module _ (r : Rules) (n : ℕ) {K S : Type 0} (m : Step S K (Error × K)) (known
       (subst (λ y. Same y (knownOf (heads.head r n m known s (xs ++ ys)) .0)) (sym (head-line r n m known s xs)) (subst (Same (knownOf (answer known (runAt m s xs 0)))) (sym (head-line r n m known s (xs ++ ys))) k))
       (head-fields xs ys) T U
 
-module _ (n : ℕ) (s t : List ℕ) {old old′ : List ℕ} {end end′ : Passed} {count count′ : ℕ} {new new′ : List ℕ} where
-  pub request-stays : {line line′ : RequestLine} → Told (request default n s) end line count old new → Told (request default n (s ++ t)) end′ line′ count′ old′ new′ → HeadStays SameRequest end end′ line line′ count count′ old′ new new′
+module _ (r : Rules) (n : ℕ) (s t : List ℕ) {old old′ : List ℕ} {end end′ : Passed} {count count′ : ℕ} {new new′ : List ℕ} where
+  pub request-stays : {line line′ : RequestLine} → Told (request r n s) end line count old new → Told (request r n (s ++ t)) end′ line′ count′ old′ new′ → HeadStays SameRequest end end′ line line′ count count′ old′ new new′
   unfolding request
-  request-stays T U = head-stays default n (requests.requestLineStep default) requests.lineKnown (first start) SameRequest s t (request-line-grows default s t) T U
+  request-stays T U = head-stays r n (requests.requestLineStep r) requests.lineKnown (first start) SameRequest s t (request-line-grows r s t) T U
 
-  pub response-stays : {line line′ : StatusLine} → Told (response default n s) end line count old new → Told (response default n (s ++ t)) end′ line′ count′ old′ new′ → HeadStays SameStatus end end′ line line′ count count′ old′ new new′
+  pub response-stays : {line line′ : StatusLine} → Told (response r n s) end line count old new → Told (response r n (s ++ t)) end′ line′ count′ old′ new′ → HeadStays SameStatus end end′ line line′ count count′ old′ new new′
   unfolding response
-  response-stays T U = head-stays default n (statuses.statusLineStep default) statuses.lineKnown (first start) SameStatus s t (status-line-grows default s t) T U
+  response-stays T U = head-stays r n (statuses.statusLineStep r) statuses.lineKnown (first start) SameStatus s t (status-line-grows r s t) T U
 
 -- headers alone: nothing is told but them
 alone-later : {a b : blocks.Blocks} → Later a b → Later (alone a) (alone b)

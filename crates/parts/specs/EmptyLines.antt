@@ -3,7 +3,7 @@
 use Prim.Native.Nat.{ℕ, _+_, _≤_, _<_}
 use mathlib.Core.Path.{_≡_, refl}
 use mathlib.Core.List.{List}
-use mathlib.Core.Bool.{_&&_, cond}
+use mathlib.Core.Bool.{Bool, _&&_, cond}
 use lib.Dec.{eqb}
 use lib.ListN.{length, getD}
 use borrow.Author.Tests.{ne-eqb}
@@ -19,11 +19,13 @@ use Rattle.rules.specs.Rules.{Rules, default}
 pub data EmptyLines : Type 0 where
   start cr : EmptyLines
 
+-- by the rules that it reads
+abbrev pub emptyLinesBy : Bool → Bool → Step EmptyLines (Unit {0}) Error
+emptyLinesBy empty lf start p b = cond (empty && eqb b 13) (keep cr) (cond (empty && lf && eqb b 10) (keep start) (before tt))
+emptyLinesBy empty lf cr p b = cond (eqb b 10) (keep start) (refuse NewLine)
+
 abbrev pub emptyLinesStep : Rules → Step EmptyLines (Unit {0}) Error
-emptyLinesStep r start p b =
-    cond (r .empty-lines && eqb b 13) (keep cr)
-    (cond (r .empty-lines && r .lf-alone && eqb b 10) (keep start) (before tt))
-emptyLinesStep r cr p b = cond (eqb b 10) (keep start) (refuse NewLine)
+emptyLinesStep r = emptyLinesBy (r .empty-lines) (r .lf-alone)
 
 abbrev pub emptyLines : Rules → List ℕ → ℕ → Answer (Unit {0}) (Unit {0}) Error
 emptyLines r xs at = reads (emptyLinesStep r) start xs at

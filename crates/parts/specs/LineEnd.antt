@@ -3,7 +3,7 @@
 use Prim.Native.Nat.{ℕ, _+_, _≤_, _<_}
 use mathlib.Core.Path.{_≡_}
 use mathlib.Core.List.{List}
-use mathlib.Core.Bool.{_&&_, cond}
+use mathlib.Core.Bool.{Bool, _&&_, cond}
 use lib.Dec.{eqb}
 use lib.ListN.{length, getD}
 use borrow.Author.Tests.{ne-eqb}
@@ -17,9 +17,13 @@ use Rattle.rules.specs.Rules.{Rules, default}
 pub data LineEnd : Type 0 where
   begin cr : LineEnd
 
+-- by the one rule that it reads, so that rules which share it have the same step
+abbrev pub lineEndBy : {E : Type 0} → Bool → E → Step LineEnd (Unit {0}) E
+lineEndBy lf e begin p b = cond (eqb b 13) (keep cr) (cond (lf && eqb b 10) (give tt) (refuse e))
+lineEndBy lf e cr p b = cond (eqb b 10) (give tt) (refuse e)
+
 abbrev pub lineEndStep : {E : Type 0} → Rules → E → Step LineEnd (Unit {0}) E
-lineEndStep r e begin p b = cond (eqb b 13) (keep cr) (cond (r .lf-alone && eqb b 10) (give tt) (refuse e))
-lineEndStep r e cr p b = cond (eqb b 10) (give tt) (refuse e)
+lineEndStep r e = lineEndBy (r .lf-alone) e
 
 abbrev pub lineEnd : {E : Type 0} → Rules → E → List ℕ → ℕ → Answer (Unit {0}) (Unit {0}) E
 lineEnd r e xs at = reads (lineEndStep r e) begin xs at

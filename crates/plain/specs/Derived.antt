@@ -45,7 +45,7 @@ version-strict one-zero = one-zero
 version-strict one-one = one-one
 version-strict (grammar.HTTP-version.other t x y) = version-plain (grammar.HTTP-version.other refl x y)
 
-target-default : {r : Rules} {t : List ℕ} → request-target r t → request-target default t
+pub target-default : {r : Rules} {t : List ℕ} → request-target r t → request-target default t
 target-default (grammar.request-target.visible h) = grammar.request-target.visible h
 target-default (grammar.request-target.any t h u) = grammar.request-target.any refl h u
 
@@ -58,9 +58,13 @@ module _ {r : Rules} {w : List ℕ} {l : RequestLine} {fs : List Field} where
   pub plain-request-own : request-head r w l fs → request-head r (plain-request l fs) l fs
   plain-request-own h = request-under h (λ t. t) (λ v. version-plain)
 
+  -- under any that take its target, if the version is 1.0 or 1.1
+  pub plain-request-under : {s : Rules} → r .known-versions ≡ true → (request-target r (l .target) → request-target s (l .target)) → request-head r w l fs → request-head s (plain-request l fs) l fs
+  plain-request-under k f h = request-under h f (λ v. version-known k)
+
   -- under default, if the version is 1.0 or 1.1
   pub plain-request-derived : r .known-versions ≡ true → request-head r w l fs → request-head default (plain-request l fs) l fs
-  plain-request-derived k h = request-under h target-default (λ v. version-known k)
+  plain-request-derived k h = plain-request-under k target-default h
 
   -- under strict, if the target is
   pub plain-request-strict : request-head r w l fs → request-target strict (l .target) → request-head strict (plain-request l fs) l fs

@@ -2,6 +2,7 @@
 use chunks::ChunkSize;
 use parts::Passed;
 use requestline::RequestLine;
+use rules::Settings;
 use startline::KnownNumber;
 use statusline::StatusLine;
 use wording::Fault;
@@ -35,17 +36,17 @@ pub struct Reading {
     pub count: usize,
 }
 
-pub fn read(kind: Kind, s: &[u8], slots: &mut Slots) -> Reading {
+pub fn read(kind: Kind, s: &[u8], slots: &mut Slots, settings: Settings) -> Reading {
     match kind {
-        Kind::Request => request(s, slots),
+        Kind::Request => request(s, slots, settings),
         Kind::Response => response(s, slots),
         Kind::Headers => headers(s, slots),
         Kind::Chunk => chunk(s),
     }
 }
 
-fn request(s: &[u8], slots: &mut Slots) -> Reading {
-    let head = calls::request(s, slots);
+fn request(s: &[u8], slots: &mut Slots, settings: Settings) -> Reading {
+    let head = calls::request(s, slots, settings);
     let end = head.end;
     let line = head.line;
     Reading {
@@ -107,13 +108,13 @@ fn chunk(s: &[u8]) -> Reading {
 
 // The position of the byte that decides the answer, or the input's end where none does. An answer stays the same whatever bytes
 // follow, so the byte is found by halves: it is the last of the shortest start of the input that is not incomplete.
-pub fn decided(kind: Kind, s: &[u8]) -> usize {
+pub fn decided(kind: Kind, s: &[u8], settings: Settings) -> usize {
     let mut low = 0;
     let mut high = s.len();
     while low < high {
         let middle = low + (high - low) / 2;
         let next = middle + 1;
-        if is_incomplete(kind, &s[0..next]) {
+        if is_incomplete(kind, &s[0..next], settings) {
             low = next;
         } else {
             high = middle;
@@ -122,9 +123,9 @@ pub fn decided(kind: Kind, s: &[u8]) -> usize {
     low
 }
 
-fn is_incomplete(kind: Kind, s: &[u8]) -> bool {
+fn is_incomplete(kind: Kind, s: &[u8], settings: Settings) -> bool {
     let mut slots = [0usize; NUMBERS];
-    let reading = read(kind, s, &mut slots);
+    let reading = read(kind, s, &mut slots, settings);
     let answer = reading.answer;
     match answer {
         Answer::Incomplete => true,

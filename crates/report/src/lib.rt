@@ -8,19 +8,20 @@ use page::text::put;
 use page::text::row;
 use reading::Answer;
 use reading::NUMBERS;
+use rules::Settings;
 use wording::Fault;
 use wording::Kind;
 
 // Answers how long the report is, or a number above the page's length where it has no room.
-pub fn report(page: &mut Page, kind: Kind, raw: bool, s: &[u8]) -> usize {
+pub fn report(page: &mut Page, kind: Kind, raw: bool, s: &[u8], settings: Settings) -> usize {
     let mut slots = [0usize; NUMBERS];
-    let reading = reading::read(kind, s, &mut slots);
+    let reading = reading::read(kind, s, &mut slots, settings);
     let answer = reading.answer;
     let first = reading.first;
     let next = if raw {
-        for_script(page, kind, answer, s)
+        for_script(page, kind, answer, s, settings)
     } else {
-        for_person(page, kind, answer, s)
+        for_person(page, kind, answer, s, settings)
     };
     let next = rows::first_line(page, next, raw, s, first);
     match kind {
@@ -30,24 +31,24 @@ pub fn report(page: &mut Page, kind: Kind, raw: bool, s: &[u8]) -> usize {
 }
 
 // The answer, and where the input is complete or where it is not.
-fn for_script(page: &mut Page, kind: Kind, answer: Answer, s: &[u8]) -> usize {
+fn for_script(page: &mut Page, kind: Kind, answer: Answer, s: &[u8], settings: Settings) -> usize {
     match answer {
         Answer::Complete(end) => fill(page, 0, b"answer\tcomplete\nend\t#\n", end, 0),
         Answer::Incomplete => {
             let next = put(page, 0, b"answer\tincomplete\n");
-            stop_rows(page, next, kind, s)
+            stop_rows(page, next, kind, s, settings)
         }
         Answer::Wrong(fault) => {
             let next = put(page, 0, b"answer\terror\t");
             let next = wording::name(page, next, fault);
             let next = put(page, next, b"\n");
-            stop_rows(page, next, kind, s)
+            stop_rows(page, next, kind, s, settings)
         }
     }
 }
 
-fn stop_rows(page: &mut Page, at: usize, kind: Kind, s: &[u8]) -> usize {
-    let stop = reading::decided(kind, s);
+fn stop_rows(page: &mut Page, at: usize, kind: Kind, s: &[u8], settings: Settings) -> usize {
+    let stop = reading::decided(kind, s, settings);
     let line = place::last_line(place::part(s, 0, stop));
     let next = fill(page, at, b"stopped\t#\nline-number\t#\n", stop, line.number);
     rows::piece(
@@ -60,11 +61,11 @@ fn stop_rows(page: &mut Page, at: usize, kind: Kind, s: &[u8]) -> usize {
     )
 }
 
-fn for_person(page: &mut Page, kind: Kind, answer: Answer, s: &[u8]) -> usize {
+fn for_person(page: &mut Page, kind: Kind, answer: Answer, s: &[u8], settings: Settings) -> usize {
     let next = match answer {
         Answer::Complete(end) => complete(page, kind, end, s.len()),
-        Answer::Incomplete => incomplete(page, kind, s),
-        Answer::Wrong(fault) => wrong(page, kind, fault, s),
+        Answer::Incomplete => incomplete(page, kind, s, settings),
+        Answer::Wrong(fault) => wrong(page, kind, fault, s, settings),
     };
     heading(page, next, kind)
 }
@@ -75,9 +76,9 @@ fn complete(page: &mut Page, kind: Kind, end: usize, all: usize) -> usize {
     fill(page, next, b" is the first # of # bytes\n", end, all)
 }
 
-fn incomplete(page: &mut Page, kind: Kind, s: &[u8]) -> usize {
+fn incomplete(page: &mut Page, kind: Kind, s: &[u8], settings: Settings) -> usize {
     let next = put(page, 0, b"incomplete");
-    let next = stop(page, next, kind, s);
+    let next = stop(page, next, kind, s, settings);
     let next = put(page, next, b"  wrong: the input ends before ");
     let next = wording::subject(page, next, kind);
     put(
@@ -90,16 +91,16 @@ fn incomplete(page: &mut Page, kind: Kind, s: &[u8]) -> usize {
     )
 }
 
-fn wrong(page: &mut Page, kind: Kind, fault: Fault, s: &[u8]) -> usize {
+fn wrong(page: &mut Page, kind: Kind, fault: Fault, s: &[u8], settings: Settings) -> usize {
     let next = put(page, 0, b"error ");
     let next = wording::name(page, next, fault);
-    let next = stop(page, next, kind, s);
+    let next = stop(page, next, kind, s, settings);
     wording::advice(page, next, fault)
 }
 
 // Where the reading stopped, and the line that it stopped in.
-fn stop(page: &mut Page, at: usize, kind: Kind, s: &[u8]) -> usize {
-    let stop = reading::decided(kind, s);
+fn stop(page: &mut Page, at: usize, kind: Kind, s: &[u8], settings: Settings) -> usize {
+    let stop = reading::decided(kind, s, settings);
     let line = place::last_line(place::part(s, 0, stop));
     let text = place::part(s, line.start, place::line_length(s, line.start));
     row(

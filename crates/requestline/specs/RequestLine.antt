@@ -16,7 +16,7 @@ use Rattle.parts.specs.LineEnd.{LineEnd, begin, lineEndStep, lineEnd}
 use Rattle.parts.specs.EmptyLines.{EmptyLines, start, emptyLinesStep, emptyLines}
 use Rattle.words.specs.Word.{Word, wordStep, word}
 use Rattle.words.specs.Word as words
-use Rattle.words.specs.Target.{Target, targetStep, target}
+use Rattle.words.specs.Target.{Target, targetByte, targetStep, target}
 use Rattle.words.specs.Target as targets
 use Rattle.versions.specs.Version.{name, versionStep, version}
 use Rattle.requestline.specs.declared.RequestLine.{RequestLine}
@@ -60,7 +60,7 @@ module _ (r : Rules) where
   versionOn k = seq (part k (withVersion k) versionStep) (λ _. begin) endStep
 
   abbrev pub targetOn : RequestLine → Line Targets
-  targetOn k = seq (part k (withTarget k) targetStep) (λ _. first name) versionOn
+  targetOn k = seq (part k (withTarget k) (targetStep (targetByte (r .any-target)))) (λ _. first name) versionOn
 
   abbrev pub methodOn : RequestLine → Line Methods
   methodOn k = seq (part k (withMethod k) (wordStep isToken 32 Token)) (λ _. first targets.none) targetOn
@@ -96,7 +96,7 @@ module _ (r : Rules) (xs : List ℕ) where
   fromVersion k q = chain k (withVersion k) (version xs q) fromEnd
 
   abbrev pub fromTarget : RequestLine → ℕ → Answer RequestLine RequestLine (Error × RequestLine)
-  fromTarget k q = chain k (withTarget k) (target xs q) fromVersion
+  fromTarget k q = chain k (withTarget k) (target (targetByte (r .any-target)) xs q) fromVersion
 
   abbrev pub fromMethod : RequestLine → ℕ → Answer RequestLine RequestLine (Error × RequestLine)
   fromMethod k q = chain k (withMethod k) (word isToken 32 Token xs q) fromTarget
@@ -114,8 +114,8 @@ module _ (r : Rules) (xs : List ℕ) where
 
   target-parts : (k : RequestLine) (q : ℕ) → answer (targetKnown k) (runAt (targetOn r k) (first targets.none) xs q) ≡ fromTarget k q
   target-parts k q =
-      answer-chain k (withTarget k) targetStep targets.none xs q versionKnown (λ _. first name) (versionOn r)
-      ∙ chain-same k (withTarget k) (target xs q) version-parts
+      answer-chain k (withTarget k) (targetStep (targetByte (r .any-target))) targets.none xs q versionKnown (λ _. first name) (versionOn r)
+      ∙ chain-same k (withTarget k) (target (targetByte (r .any-target)) xs q) version-parts
 
   method-parts : (k : RequestLine) (q : ℕ) → answer (methodKnown k) (runAt (methodOn r k) (first words.none) xs q) ≡ fromMethod k q
   method-parts k q =

@@ -1,12 +1,14 @@
 // The start of a request: empty lines, and the request line.
 ghost use mathlib.Core.Path.{_≡_};
 ghost use Rattle.rules.specs.Rules.{default};
+ghost use Rattle.rules.specs.Settings.{rulesOf};
 ghost use Rattle.startline.specs.Answers.{tell};
 ghost use Rattle.requestline.specs.RequestLine.{requestLine, fromEnd, fromVersion, fromTarget, fromMethod};
 use parts::Error;
 use parts::Found;
 use parts::Number;
 use parts::Passed;
+use rules::Settings;
 use startline::KnownNumber;
 use startline::KnownPiece;
 
@@ -29,7 +31,7 @@ fn stopped(end: Passed, line: RequestLine) -> RequestLineRead
     RequestLineRead { end, line }
 }
 
-// The line's end.
+// The line's end, which no setting changes.
 fn request_end(s: &[u8], at: usize, line: RequestLine) -> RequestLineRead
     ensures { λ r. ⌜ tell (r .end) (r .line) ≡ fromEnd default (now (s .entry)) line at ⌝ }
 {
@@ -37,7 +39,7 @@ fn request_end(s: &[u8], at: usize, line: RequestLine) -> RequestLineRead
     RequestLineRead { end, line }
 }
 
-// A version, and the line's end.
+// A version, and the line's end, which no setting changes.
 fn request_version(s: &[u8], at: usize, line: RequestLine) -> RequestLineRead
     ensures { λ r. ⌜ tell (r .end) (r .line) ≡ fromVersion default (now (s .entry)) line at ⌝ }
 {
@@ -62,10 +64,10 @@ fn request_version(s: &[u8], at: usize, line: RequestLine) -> RequestLineRead
 }
 
 // A target and what follows it.
-fn request_target(s: &[u8], at: usize, line: RequestLine) -> RequestLineRead
-    ensures { λ r. ⌜ tell (r .end) (r .line) ≡ fromTarget default (now (s .entry)) line at ⌝ }
+fn request_target(s: &[u8], at: usize, line: RequestLine, settings: Settings) -> RequestLineRead
+    ensures { λ r. ⌜ tell (r .end) (r .line) ≡ fromTarget (rulesOf settings) (now (s .entry)) line at ⌝ }
 {
-    let found = words::target(s, at);
+    let found = words::target(s, at, settings.ascii_targets);
     match found {
         Found::At(target, next) => {
             let method = line.method;
@@ -86,8 +88,8 @@ fn request_target(s: &[u8], at: usize, line: RequestLine) -> RequestLineRead
 }
 
 // A method and what follows it.
-fn request_method(s: &[u8], at: usize, line: RequestLine) -> RequestLineRead
-    ensures { λ r. ⌜ tell (r .end) (r .line) ≡ fromMethod default (now (s .entry)) line at ⌝ }
+fn request_method(s: &[u8], at: usize, line: RequestLine, settings: Settings) -> RequestLineRead
+    ensures { λ r. ⌜ tell (r .end) (r .line) ≡ fromMethod (rulesOf settings) (now (s .entry)) line at ⌝ }
 {
     let found = words::token(s, at, 32, Error::Token);
     match found {
@@ -102,6 +104,7 @@ fn request_method(s: &[u8], at: usize, line: RequestLine) -> RequestLineRead
                     target,
                     version,
                 },
+                settings,
             )
         }
         Found::More => stopped(Passed::More, line),
@@ -110,8 +113,8 @@ fn request_method(s: &[u8], at: usize, line: RequestLine) -> RequestLineRead
 }
 
 // Empty lines and a request line, from the start of the input.
-pub fn request_line(s: &[u8]) -> RequestLineRead
-    ensures { λ r. ⌜ tell (r .end) (r .line) ≡ requestLine default (now (s .entry)) 0 ⌝ }
+pub fn request_line(s: &[u8], settings: Settings) -> RequestLineRead
+    ensures { λ r. ⌜ tell (r .end) (r .line) ≡ requestLine (rulesOf settings) (now (s .entry)) 0 ⌝ }
 {
     let line = RequestLine {
         method: KnownPiece::NotYet,
@@ -120,7 +123,7 @@ pub fn request_line(s: &[u8]) -> RequestLineRead
     };
     let passed = parts::empty_lines(s, 0);
     match passed {
-        Passed::At(next) => request_method(s, next, line),
+        Passed::At(next) => request_method(s, next, line, settings),
         Passed::More => stopped(Passed::More, line),
         Passed::Bad(e) => stopped(Passed::Bad(e), line),
     }

@@ -8,7 +8,9 @@ use lib.Dec.{ltb}
 use lib.ListN.{length, drop}
 use borrow.Author.Tests.{ltb-true, ltb-false}
 use Rattle.reader.specs.Tests.{never}
+use Rattle.rules.specs.declared.Settings.{Settings}
 use Rattle.rules.specs.Rules.{default}
+use Rattle.rules.specs.Settings.{rulesOf}
 use Rattle.grammar.specs.Fields.{Field}
 use Rattle.grammar.specs.Message.{request-head, response-head}
 use Rattle.parts.specs.declared.Passed.{Passed}
@@ -17,6 +19,7 @@ use Rattle.heads.specs.declared.RequestHead.{RequestHead}
 use Rattle.heads.specs.declared.ResponseHead.{ResponseHead}
 use Rattle.blocks.specs.declared.Block.{Block}
 use Rattle.agreement.specs.Known.{fieldsIn}
+use Rattle.agreement.specs.Starts.{settings-fixed}
 use Rattle.agreement.specs.Promises.{HeadPromise, block-alone}
 use Rattle.plain.specs.Plain.{plain-request, plain-response, plain-fields}
 use Rattle.places.specs.Lies.{requestOf, statusOf, Complete, RequestLies, ResponseLies, BlockLies}
@@ -26,7 +29,7 @@ use Rattle.writer.specs.declared.Writing.{Writing}
 use Rattle.writer.specs.declared.Writing.the-variants.{Written, Needs, Unwritable, TooLong}
 use Rattle.writer.specs.Promise.{request-form, response-form, block-form, PlainPromise, written, needs, unwritable, too-long}
 use Rattle.onereading.specs.Statements.{CanBeWritten}
-use Rattle.onereading.specs.RoundTrip.{RequestPromise, request-told, request-written, request-plain, ResponsePromise, status-told, response-written, response-plain, BlockPromise, headers-written, headers-plain}
+use Rattle.onereading.specs.RoundTrip.{RequestPromise, own-takes, request-told, request-written, request-plain, ResponsePromise, status-told, response-written, response-plain, BlockPromise, headers-written, headers-plain}
 
 -- a head has at most as many fields as are kept
 abbrev pub most : ℕ
@@ -82,8 +85,10 @@ end-of : {e : Passed} → Complete e → (q : ℕ) × (e ≡ At q)
 end-of (Complete.at q) = (q, refl)
 
 module _ {s slots : List ℕ} {out : List ℕ} {r : Writing} {out′ new : List ℕ} where
-  pub restated-request : {head : RequestHead} → RequestPromise s slots head new → length slots ≡ 400 → PlainPromise s (RequestLies s head new) (request-form s head new) out r out′ → Restated (request-head default) plain-request s out r out′
-  restated-request P m W = restated requestOf plain-request request-told P m W (λ v. end-of (v .complete)) (λ q e. request-written P e W) (λ q e. request-plain P e)
+  pub restated-request : (settings : Settings) {head : RequestHead} → RequestPromise (rulesOf settings) s slots head new → length slots ≡ 400 → PlainPromise s (RequestLies s head new) (request-form s head new) out r out′ → Restated (request-head (rulesOf settings)) plain-request s out r out′
+  restated-request settings P m W =
+      let fixed = settings-fixed settings in
+      restated requestOf plain-request (request-told fixed) P m W (λ v. end-of (v .complete)) (λ q e. request-written fixed P e W) (λ q e. request-plain fixed P e own-takes)
 
   pub restated-response : {head : ResponseHead} → ResponsePromise s slots head new → length slots ≡ 400 → PlainPromise s (ResponseLies s head new) (response-form s head new) out r out′ → Restated (response-head default) plain-response s out r out′
   restated-response P m W = restated statusOf plain-response status-told P m W (λ v. end-of (v .complete)) (λ q e. response-written P e W) (λ q e. response-plain P e)
@@ -91,24 +96,24 @@ module _ {s slots : List ℕ} {out : List ℕ} {r : Writing} {out′ new : List 
   pub restated-headers : {block : Block} → BlockPromise s slots block new → length slots ≡ 400 → PlainPromise s (BlockLies s block new) (block-form s block new) out r out′ → Restated block-alone (λ l fs. plain-fields fs) s out r out′
   restated-headers P m W = restated (λ z k. k) (λ l fs. plain-fields fs) (λ z k w l fs h a. refl) P m W (λ v. end-of (v .complete)) (λ q e. headers-written P e W) (λ q e. headers-plain P e default)
 
--- what was asked for: a kind of head, or a chunk size line, which has no plain form
-pub data Restatement (s old : List ℕ) : Kind → Writing → List ℕ → Type 0 where
-  request : {r : Writing} {new : List ℕ} → Restated (request-head default) plain-request s old r new → Restatement s old Request r new
-  response : {r : Writing} {new : List ℕ} → Restated (response-head default) plain-response s old r new → Restatement s old Response r new
-  headers : {r : Writing} {new : List ℕ} → Restated block-alone (λ l fs. plain-fields fs) s old r new → Restatement s old Headers r new
-  chunk : Restatement s old Chunk Unwritable old
+-- what was asked for: a kind of head, by the rules that the settings choose, or a chunk size line, which has no plain form
+pub data Restatement (settings : Settings) (s old : List ℕ) : Kind → Writing → List ℕ → Type 0 where
+  request : {r : Writing} {new : List ℕ} → Restated (request-head (rulesOf settings)) plain-request s old r new → Restatement settings s old Request r new
+  response : {r : Writing} {new : List ℕ} → Restated (response-head default) plain-response s old r new → Restatement settings s old Response r new
+  headers : {r : Writing} {new : List ℕ} → Restated block-alone (λ l fs. plain-fields fs) s old r new → Restatement settings s old Headers r new
+  chunk : Restatement settings s old Chunk Unwritable old
 
-module _ {s old : List ℕ} {kind : Kind} where
-  pub as-request : kind ≡ Request → {r : Writing} {new : List ℕ} → Restated (request-head default) plain-request s old r new → Restatement s old kind r new
-  as-request e {r} {new} x = subst (λ k. Restatement s old k r new) (sym e) (request x)
+module _ {settings : Settings} {s old : List ℕ} {kind : Kind} where
+  pub as-request : kind ≡ Request → {r : Writing} {new : List ℕ} → Restated (request-head (rulesOf settings)) plain-request s old r new → Restatement settings s old kind r new
+  as-request e {r} {new} x = subst (λ k. Restatement settings s old k r new) (sym e) (request x)
 
-  pub as-response : kind ≡ Response → {r : Writing} {new : List ℕ} → Restated (response-head default) plain-response s old r new → Restatement s old kind r new
-  as-response e {r} {new} x = subst (λ k. Restatement s old k r new) (sym e) (response x)
+  pub as-response : kind ≡ Response → {r : Writing} {new : List ℕ} → Restated (response-head default) plain-response s old r new → Restatement settings s old kind r new
+  as-response e {r} {new} x = subst (λ k. Restatement settings s old k r new) (sym e) (response x)
 
-  pub as-headers : kind ≡ Headers → {r : Writing} {new : List ℕ} → Restated block-alone (λ l fs. plain-fields fs) s old r new → Restatement s old kind r new
-  as-headers e {r} {new} x = subst (λ k. Restatement s old k r new) (sym e) (headers x)
+  pub as-headers : kind ≡ Headers → {r : Writing} {new : List ℕ} → Restated block-alone (λ l fs. plain-fields fs) s old r new → Restatement settings s old kind r new
+  as-headers e {r} {new} x = subst (λ k. Restatement settings s old k r new) (sym e) (headers x)
 
-  pub as-chunk : kind ≡ Chunk → {r : Writing} → r ≡ Unwritable → Restatement s old kind r old
-  as-chunk e {r} f = subst (λ k. Restatement s old k r old) (sym e) (subst (λ y. Restatement s old Chunk y old) (sym f) chunk)
+  pub as-chunk : kind ≡ Chunk → {r : Writing} → r ≡ Unwritable → Restatement settings s old kind r old
+  as-chunk e {r} f = subst (λ k. Restatement settings s old k r old) (sym e) (subst (λ y. Restatement settings s old Chunk y old) (sym f) chunk)
 
 pub ruleset restatements = (as-request, as-response, as-headers, as-chunk)

@@ -6,7 +6,7 @@ use mathlib.Core.Path.{_≡_, refl, sym, ap, subst, _∙_}
 use mathlib.Core.List.{List, [], _∷_, _++_, append-assoc, append-nil}
 use lib.ListN.{length, take, drop, getD, set, length-append, length-drop, length-set}
 use lib.Seq.{take-all, drop-at, drop-cons, set-at}
-use Rattle.rules.specs.Rules.{default}
+use Rattle.rules.specs.Rules.{Rules}
 use Rattle.grammar.specs.Fields.{Field}
 use Rattle.grammar.specs.Message.{request-head, response-head}
 use Rattle.lengths.specs.Lengths.{head-long}
@@ -43,18 +43,18 @@ module _ {L K : Type 0} {Head : List ℕ → L → List Field → Type 0} {read 
 rest-of : (s : List ℕ) (at : ℕ) → take (length s - at) (drop at s) ≡ drop at s
 rest-of s at = take-all (length s - at) (drop at s) (omega (arith, length-drop at s))
 
-module _ (s : List ℕ) (at : ℕ) {old : List ℕ} {end : Passed} {count : ℕ} {new : List ℕ} where
-  pub next-request : {line : RequestLine} → Told (request default (length old / 4) (take (length s - at) (drop at s))) end line count old new → HeadPromise (request-head default) RequestSays RequestInside (take (length s - at) (drop at s)) old end line count new → Next (request-head default) (request default) (length old / 4) (drop at s) end
-  next-request T P = subst (λ z. Next (request-head default) (request default) (length old / 4) z end) (rest-of s at) (next {read = request default} (λ w l fs. head-long) end T P)
+module _ (r : Rules) (s : List ℕ) (at : ℕ) {old : List ℕ} {end : Passed} {count : ℕ} {new : List ℕ} where
+  pub next-request : {line : RequestLine} → Told (request r (length old / 4) (take (length s - at) (drop at s))) end line count old new → HeadPromise (request-head r) RequestSays (RequestInside r) (take (length s - at) (drop at s)) old end line count new → Next (request-head r) (request r) (length old / 4) (drop at s) end
+  next-request T P = subst (λ z. Next (request-head r) (request r) (length old / 4) z end) (rest-of s at) (next {read = request r} (λ w l fs. head-long) end T P)
 
-  pub used-request : {line : RequestLine} → Told (request default (length old / 4) (take (length s - at) (drop at s))) end line count old new → new ≡ used (request default) (length old / 4) (drop at s) old
-  used-request T = T .slots ∙ ap (λ z. used (request default) (length old / 4) z old) (rest-of s at)
+  pub used-request : {line : RequestLine} → Told (request r (length old / 4) (take (length s - at) (drop at s))) end line count old new → new ≡ used (request r) (length old / 4) (drop at s) old
+  used-request T = T .slots ∙ ap (λ z. used (request r) (length old / 4) z old) (rest-of s at)
 
-  pub next-response : {line : StatusLine} → Told (response default (length old / 4) (take (length s - at) (drop at s))) end line count old new → HeadPromise (response-head default) StatusSays StatusInside (take (length s - at) (drop at s)) old end line count new → Next (response-head default) (response default) (length old / 4) (drop at s) end
-  next-response T P = subst (λ z. Next (response-head default) (response default) (length old / 4) z end) (rest-of s at) (next {read = response default} (λ w l fs. head-long) end T P)
+  pub next-response : {line : StatusLine} → Told (response r (length old / 4) (take (length s - at) (drop at s))) end line count old new → HeadPromise (response-head r) StatusSays StatusInside (take (length s - at) (drop at s)) old end line count new → Next (response-head r) (response r) (length old / 4) (drop at s) end
+  next-response T P = subst (λ z. Next (response-head r) (response r) (length old / 4) z end) (rest-of s at) (next {read = response r} (λ w l fs. head-long) end T P)
 
-  pub used-response : {line : StatusLine} → Told (response default (length old / 4) (take (length s - at) (drop at s))) end line count old new → new ≡ used (response default) (length old / 4) (drop at s) old
-  used-response T = T .slots ∙ ap (λ z. used (response default) (length old / 4) z old) (rest-of s at)
+  pub used-response : {line : StatusLine} → Told (response r (length old / 4) (take (length s - at) (drop at s))) end line count old new → new ≡ used (response r) (length old / 4) (drop at s) old
+  used-response T = T .slots ∙ ap (λ z. used (response r) (length old / 4) z old) (rest-of s at)
 
 -- one head more behind a row
 row-more : {L : Type 0} {Head : List ℕ → L → List Field → Type 0} {at : ℕ} {v : List ℕ} {hs : List (L × List Field)} {es : List ℕ} → Row Head at v hs es → {w : List ℕ} {l : L} {fs : List Field} → Head w l fs → Row Head at (v ++ w) (hs ++ ((l, fs) ∷ [])) (es ++ ((at + length (v ++ w)) ∷ []))

@@ -3,12 +3,14 @@ ghost use mathlib.Core.Path.{_≡_};
 ghost use Prim.Native.Nat.{_/_, _≤_};
 ghost use lib.ListN.{length, drop};
 ghost use Rattle.rules.specs.Rules.{default};
+ghost use Rattle.rules.specs.Settings.{rulesOf};
 ghost use Rattle.grammar.specs.Message.{request-head, response-head};
 ghost use Rattle.heads.specs.Calls.{request as requestOf, response as responseOf};
 ghost use Rattle.rows.specs.Row.{used, RowPromise};
 ghost use Rattle.rows.specs.Reading.{Next};
 use parts::Error;
 use parts::Passed;
+use rules::Settings;
 
 // Why the reading stopped: all of the input was read; there is no room for one more end; the input ends before the next head does; the
 // next head has an error.
@@ -27,13 +29,13 @@ pub struct RowRead {
 }
 
 // The end of the head that starts at `at`, from there on.
-fn next_request(s: &[u8], at: usize, slots: &mut [usize]) -> Passed
+fn next_request(s: &[u8], at: usize, slots: &mut [usize], settings: Settings) -> Passed
     requires { ⌜ at ≤ length (now s) ⌝ }
-    ensures { λ r. ⌜ Next (request-head default) (requestOf default) (length (now (slots .entry)) / 4) (drop at (now (s .entry))) r ⌝ }
-    ensures { λ r. ⌜ now (slots .exit) ≡ used (requestOf default) (length (now (slots .entry)) / 4) (drop at (now (s .entry))) (now (slots .entry)) ⌝ }
+    ensures { λ r. ⌜ Next (request-head (rulesOf settings)) (requestOf (rulesOf settings)) (length (now (slots .entry)) / 4) (drop at (now (s .entry))) r ⌝ }
+    ensures { λ r. ⌜ now (slots .exit) ≡ used (requestOf (rulesOf settings)) (length (now (slots .entry)) / 4) (drop at (now (s .entry))) (now (slots .entry)) ⌝ }
     ensures { λ r. ⌜ length (now (slots .exit)) ≡ length (now (slots .entry)) ⌝ }
 {
-    let head = calls::request(&s[at..], slots);
+    let head = calls::request(&s[at..], slots, settings);
     head.end
 }
 
@@ -48,8 +50,8 @@ fn next_response(s: &[u8], at: usize, slots: &mut [usize]) -> Passed
 }
 
 // Puts the position behind each head into `ends`. The slots are used for each head in turn, and are left as the last call left them.
-pub fn requests(s: &[u8], slots: &mut [usize], ends: &mut [usize]) -> RowRead
-    ensures { λ r. ⌜ RowPromise (request-head default) (requestOf default) (length (now (slots .entry)) / 4) (now (s .entry)) (now (slots .entry)) (now (ends .entry)) r (now (slots .exit)) (now (ends .exit)) ⌝ }
+pub fn requests(s: &[u8], slots: &mut [usize], ends: &mut [usize], settings: Settings) -> RowRead
+    ensures { λ r. ⌜ RowPromise (request-head (rulesOf settings)) (requestOf (rulesOf settings)) (length (now (slots .entry)) / 4) (now (s .entry)) (now (slots .entry)) (now (ends .entry)) r (now (slots .exit)) (now (ends .exit)) ⌝ }
 {
     let mut at = 0;
     let mut count = 0;
@@ -61,7 +63,7 @@ pub fn requests(s: &[u8], slots: &mut [usize], ends: &mut [usize]) -> RowRead
                 stop: Stop::Full,
             };
         }
-        let end = next_request(s, at, slots);
+        let end = next_request(s, at, slots, settings);
         match end {
             Passed::At(n) => {
                 at += n;

@@ -2,7 +2,7 @@
 ghost use Prim.Native.Nat.{_+_, _≤_, _<_};
 ghost use mathlib.Core.Path.{_≡_};
 ghost use lib.ListN.{length, getD};
-ghost use Rattle.octets.specs.Class.{isAscii, isTarget, isToken, isValue};
+ghost use Rattle.octets.specs.Class.{isAscii, isTarget, isToken, isValue, isVisible};
 ghost use Rattle.flags.specs.Test.{word};
 ghost use Rattle.skips.specs.Ahead.{Ahead, Loaded};
 
@@ -12,7 +12,7 @@ fn wide(b: u8) -> u64
     b as u64
 }
 
-// The first byte lowest: one load in the compiled code.
+// The first byte lowest. The sum is flat, since so it is one load before the compiler decides what becomes part of its callers.
 fn load(s: &[u8], i: usize) -> u64
     requires { ⌜ i + 8 ≤ length (now s) ⌝ }
     ensures { λ r. ⌜ r ≡ word (λ k. getD (now (s .entry)) (i + k) 0) 0 8 ⌝ }
@@ -53,6 +53,16 @@ pub(crate) fn target(s: &[u8], i: usize) -> usize
         return 0;
     }
     flags::target(eight(s, i))
+}
+
+pub(crate) fn visible(s: &[u8], i: usize) -> usize
+    requires { ⌜ i < length (now s) ⌝ }
+    ensures { λ r. ⌜ Ahead isVisible (now (s .entry)) i r ⌝ }
+{
+    if s.len() - i < 8 {
+        return 0;
+    }
+    flags::visible(eight(s, i))
 }
 
 pub(crate) fn value(s: &[u8], i: usize) -> usize

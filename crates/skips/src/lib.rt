@@ -1,6 +1,6 @@
 // The end of a row of bytes of a class.
 ghost use Rattle.reader.specs.Skip.{Skipped};
-ghost use Rattle.octets.specs.Class.{isAscii, isBlank, isTarget, isToken, isValue};
+ghost use Rattle.octets.specs.Class.{isAscii, isBlank, isTarget, isToken, isValue, isVisible};
 
 mod eights;
 
@@ -44,7 +44,26 @@ pub fn skip_target(s: &[u8], at: usize) -> usize
     i
 }
 
-// Most of a head is values: the test for eight bytes being left stands alone in the loop, and the last few have one of their own.
+pub fn skip_visible(s: &[u8], at: usize) -> usize
+    ensures { λ r. ⌜ Skipped isVisible (now (s .entry)) at r ⌝ }
+{
+    let mut i = at;
+    while i < s.len() {
+        let n = eights::visible(s, i);
+        if n == 8 {
+            i += 8;
+        } else {
+            i += n;
+            if !octets::is_visible(s[i]) {
+                return i;
+            }
+            i += 1;
+        }
+    }
+    i
+}
+
+// Most of a head is values: in the loop one test tells whether eight bytes are left, and the last few have a loop of their own.
 pub fn skip_value(s: &[u8], at: usize) -> usize
     ensures { λ r. ⌜ Skipped isValue (now (s .entry)) at r ⌝ }
 {

@@ -89,8 +89,9 @@ fn head_advice(page: &mut Page, at: usize, e: Error) -> usize {
         Error::Token => put(
             page,
             at,
-            b"  wrong: the method or the target is empty, has a byte that may not stand there, or is not UTF-8
-  to do: have the sender write the line as POST /orders HTTP/1.1, then CR LF;
+            b"  wrong: the method or the target is empty, has a byte that may not stand there, or is not UTF-8, or with
+         --ascii-targets not ASCII
+  to do: have the sender write the line as POST /orders HTTP/1.1, then CR LF, and a byte from 0x80 on as %XX;
          if the input is a response, call headread response
 ",
         ),

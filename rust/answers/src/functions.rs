@@ -33,6 +33,9 @@ extern "C" {
 /// All settings off.
 pub const DEFAULT: u32 = 0;
 
+/// The bit of the setting under which a target has visible ASCII only.
+pub const ASCII_TARGETS: u32 = 128;
+
 /// What a function returns.
 pub const COMPLETE: u32 = 0;
 pub const INCOMPLETE: u32 = 1;
@@ -87,6 +90,7 @@ mod tests {
             ("HR_KNOWS_VERSION", VERSION),
             ("HR_KNOWS_CODE", CODE),
             ("HR_KNOWS_REASON", REASON),
+            ("HR_ASCII_TARGETS", u64::from(ASCII_TARGETS)),
         ];
         let errors = [
             "HR_HEADER_NAME",

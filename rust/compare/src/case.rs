@@ -2,6 +2,7 @@
 
 use crate::numbers::SLOT;
 use answers::{Call, Query, Settings};
+use std::fmt;
 
 /// Every call.
 pub const CALLS: [Call; 4] = [
@@ -19,13 +20,26 @@ pub struct Case<'input> {
     pub slots: usize,
     /// Numbers lent behind the last whole slot, fewer than a slot has.
     pub remainder: usize,
+    /// Whether the target of a request must be plain ASCII; the other calls do not care.
+    pub ascii_targets: bool,
     pub input: &'input [u8],
 }
 
-impl Case<'_> {
+impl<'input> Case<'input> {
     /// How many numbers are lent for headers.
     pub fn room(&self) -> usize {
         self.slots * SLOT + self.remainder
+    }
+
+    /// The same call on all that stands in front of the first byte beyond ASCII, if there is such a
+    /// byte and the target may not have it.
+    pub fn ascii_part(&self) -> Option<Case<'input>> {
+        if !self.ascii_targets || self.call != Call::Request {
+            return None;
+        }
+        let end = self.input.iter().position(|byte| !byte.is_ascii())?;
+        let input = &self.input[..end];
+        Some(Case { input, ..*self })
     }
 
     /// The same call as a query, which the oracle's program can be asked.
@@ -36,5 +50,16 @@ impl Case<'_> {
             slots: self.slots,
             input: self.input.to_vec(),
         }
+    }
+}
+
+/// The query, and what no query says, since httparse does not have it.
+impl fmt::Display for Case<'_> {
+    fn fmt(&self, formatter: &mut fmt::Formatter<'_>) -> fmt::Result {
+        write!(formatter, "{}", self.query())?;
+        if self.ascii_targets {
+            formatter.write_str("\nwith targets in plain ASCII, and httparse behind a filter")?;
+        }
+        Ok(())
     }
 }

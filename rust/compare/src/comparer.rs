@@ -3,7 +3,7 @@
 use crate::numbers::Numbers;
 use crate::plain::RoundTrip;
 use crate::shrink::shrink;
-use crate::{ours, text, theirs, Case, Tally};
+use crate::{expected, ours, text, Case, Tally};
 use answers::Call;
 
 /// Makes a call, and writes what it answers.
@@ -14,7 +14,7 @@ pub struct Comparer {
     name: &'static str,
     library: Box<Library>,
     ours: Numbers,
-    theirs: Numbers,
+    expected: Numbers,
     round_trip: RoundTrip,
     tally: Tally,
 }
@@ -30,7 +30,7 @@ impl Comparer {
             name,
             library: Box::new(library),
             ours: Numbers::default(),
-            theirs: Numbers::default(),
+            expected: Numbers::default(),
             round_trip: RoundTrip::default(),
             tally: Tally::default(),
         }
@@ -42,15 +42,15 @@ impl Comparer {
         if self.differ(case) {
             panic!("{}", self.report(case));
         }
-        self.tally.count(self.theirs.status);
-        if is_complete_head(case, &self.theirs) {
+        self.tally.count(self.expected.status);
+        if is_complete_head(case, &self.expected) {
             self.send_round(case);
         }
     }
 
     /// Sends a complete head through its plain form and back; if it is lost, panics with the shortest that is.
     fn send_round(&mut self, case: &Case) {
-        if self.round_trip.go(case, &self.theirs).is_err() {
+        if self.round_trip.go(case, &self.expected).is_err() {
             let input = shrink(case.input, |input| {
                 self.lost(&Case { input, ..*case }).is_some()
             });
@@ -59,17 +59,17 @@ impl Comparer {
                 ..*case
             };
             let wrong = self.lost(&shortest).unwrap_or_default();
-            panic!("a head does not come back:\n{}\n{wrong}", shortest.query());
+            panic!("a head does not come back:\n{shortest}\n{wrong}");
         }
         self.tally.count_round_trip();
     }
 
     /// What goes wrong on the round trip of a case, if it is a complete head.
     fn lost(&mut self, case: &Case) -> Option<String> {
-        self.theirs.lend(case.room());
-        theirs::read(case, &mut self.theirs);
-        let complete = is_complete_head(case, &self.theirs);
-        complete.then(|| self.round_trip.go(case, &self.theirs).err())?
+        self.expected.lend(case.room());
+        expected::read(case, &mut self.expected);
+        let complete = is_complete_head(case, &self.expected);
+        complete.then(|| self.round_trip.go(case, &self.expected).err())?
     }
 
     pub fn tally(&self) -> Tally {
@@ -79,9 +79,9 @@ impl Comparer {
     fn differ(&mut self, case: &Case) -> bool {
         self.ours.lend(case.room());
         (self.library)(case, &mut self.ours);
-        self.theirs.lend(case.room());
-        theirs::read(case, &mut self.theirs);
-        self.ours != self.theirs
+        self.expected.lend(case.room());
+        expected::read(case, &mut self.expected);
+        self.ours != self.expected
     }
 
     /// What is said of a case on which the two differ, with the shortest input that shows it.
@@ -93,13 +93,12 @@ impl Comparer {
         };
         self.differ(&shortest);
         format!(
-            "{} and httparse differ on this query (numbers lent: {}):\n{}\n{}: {}\nhttparse: {}",
+            "{} and httparse differ on this query (numbers lent: {}):\n{shortest}\n{}: {}\nhttparse: {}",
             self.name,
             shortest.room(),
-            shortest.query(),
             self.name,
             text::line(case.call, &self.ours),
-            text::line(case.call, &self.theirs)
+            text::line(case.call, &self.expected)
         )
     }
 }
@@ -113,9 +112,11 @@ fn is_complete_head(case: &Case, answer: &Numbers) -> bool {
 mod tests {
     use super::*;
     use crate::numbers::UNTOUCHED;
+    use crate::theirs;
 
-    /// Every call, complete, incomplete and refused, with written slots, free ones and a remainder.
-    const CASES: [Case; 8] = [
+    /// Every call, complete, incomplete and refused, with written slots, free ones and a remainder,
+    /// and some under the setting.
+    const CASES: [Case; 12] = [
         case(Call::Request, b"GET / HTTP/1.1\r\nA: b\r\n\r\n"),
         case(Call::Request, b"GET / HTTP/1.0\nA: b\n"),
         case(Call::Request, b"GET /\xff "),
@@ -124,6 +125,13 @@ mod tests {
         case(Call::Headers, b"A: b\r\n\r\n"),
         case(Call::ChunkSize, b"1f\r\n"),
         case(Call::ChunkSize, b"g"),
+        ascii(b"GET /\xc3\xa9 HTTP/1.1\r\nA: b\r\n\r\n"),
+        ascii(b"GET /\xff"),
+        ascii(b"GET / HTTP/1.1\r\nA: \xff\r\n\r\n"),
+        Case {
+            ascii_targets: true,
+            ..case(Call::Response, b"HTTP/1.1 200 \xff\r\nA: b\r\n")
+        },
     ];
 
     const fn case(call: Call, input: &'static [u8]) -> Case<'static> {
@@ -131,14 +139,23 @@ mod tests {
             call,
             slots: 2,
             remainder: 3,
+            ascii_targets: false,
             input,
+        }
+    }
+
+    /// A request whose target must be ASCII.
+    const fn ascii(input: &'static [u8]) -> Case<'static> {
+        Case {
+            ascii_targets: true,
+            ..case(Call::Request, input)
         }
     }
 
     /// Whether httparse's own answer is told from one that was changed.
     fn notices(case: &Case, change: impl Fn(&mut Numbers) + 'static) -> bool {
         let changed = move |case: &Case, numbers: &mut Numbers| {
-            theirs::read(case, numbers);
+            expected::read(case, numbers);
             change(numbers);
         };
         Comparer::of("a changed httparse", changed).differ(case)
@@ -166,7 +183,7 @@ mod tests {
         for case in &CASES {
             let mut expected = Numbers::default();
             expected.lend(case.room());
-            theirs::read(case, &mut expected);
+            expected::read(case, &mut expected);
             for (place, &right) in lent(&mut expected).iter().enumerate() {
                 for wrong in [right ^ 1, right.wrapping_add(1), 0, UNTOUCHED] {
                     let noticed = notices(case, move |numbers| lent(numbers)[place] = wrong);
@@ -197,7 +214,7 @@ mod tests {
 
     /// A library that takes 0x80 for an error in a value wherever it stands.
     fn wrong_at_0x80(case: &Case, numbers: &mut Numbers) {
-        theirs::read(case, numbers);
+        expected::read(case, numbers);
         if case.input.contains(&0x80) {
             numbers.status = 3;
         }
@@ -218,5 +235,73 @@ slots=[] and 11 untouched numbers"
             input: &long,
             ..CASES[0]
         });
+    }
+
+    /// Headreader with the setting off, whatever the case says.
+    fn never_ascii(case: &Case, numbers: &mut Numbers) {
+        let off = Case {
+            ascii_targets: false,
+            ..*case
+        };
+        ours::read(&off, numbers);
+    }
+
+    /// Headreader with the setting on, whatever the case says.
+    fn always_ascii(case: &Case, numbers: &mut Numbers) {
+        let on = Case {
+            ascii_targets: true,
+            ..*case
+        };
+        ours::read(&on, numbers);
+    }
+
+    /// A library that refuses a byte beyond ASCII only when the target is whole.
+    fn ascii_at_the_space(case: &Case, numbers: &mut Numbers) {
+        theirs::read(case, numbers);
+        if !case.input.is_ascii() && numbers.out.numbers()[2] & 2 != 0 {
+            numbers.lend(case.room());
+            ours::read(case, numbers);
+        }
+    }
+
+    /// A library that refuses a byte beyond ASCII wherever it stands.
+    fn ascii_everywhere(case: &Case, numbers: &mut Numbers) {
+        ours::read(case, numbers);
+        if !case.input.is_ascii() {
+            numbers.status = 6;
+        }
+    }
+
+    #[test]
+    fn a_setting_that_is_wrong_is_noticed() {
+        let off = case(Call::Request, b"GET /\xc3\xa9 HTTP/1.1\n\n");
+        for (library, case) in [
+            (never_ascii as fn(&Case, &mut Numbers), ascii(off.input)),
+            (never_ascii, ascii(b"GET \x80")),
+            (always_ascii, off),
+            (always_ascii, case(Call::Request, b"GET \x80")),
+            (ascii_at_the_space, ascii(b"GET /\xc3\xa9")),
+            (ascii_at_the_space, ascii(b"GET /\xff")),
+            (ascii_everywhere, ascii(b"GET / HTTP/1.1\nA: \xff\n\n")),
+            (ascii_everywhere, ascii(b"GET / \xff")),
+        ] {
+            assert!(Comparer::of("a wrong setting", library).differ(&case));
+            assert!(!Comparer::of_headreader().differ(&case));
+        }
+    }
+
+    #[test]
+    #[should_panic(
+        expected = "a wrong setting and httparse differ on this query (numbers lent: 11):
+request\tdefault\t2\t\"a \\xe9\"
+with targets in plain ASCII, and httparse behind a filter
+a wrong setting: incomplete end=0 given=0 known=1 method=0+1 target=0+0 version=0 \
+slots=[] and 11 untouched numbers
+httparse: error Token end=0 given=0 known=1 method=0+1 target=0+0 version=0 \
+slots=[] and 11 untouched numbers"
+    )]
+    fn a_difference_by_the_setting_is_told_with_it() {
+        let cut = ascii(b"\r\nGET /caf\xe9");
+        Comparer::of("a wrong setting", never_ascii).compare(&cut);
     }
 }

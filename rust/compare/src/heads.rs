@@ -220,6 +220,7 @@ mod tests {
             call: head.call,
             slots: head.headers,
             remainder: 0,
+            ascii_targets: false,
             input: &head.bytes,
         };
         let mut numbers = Numbers::default();

@@ -4,6 +4,7 @@ mod case;
 mod comparer;
 mod cores;
 pub mod damage;
+mod expected;
 pub mod heads;
 pub mod numbers;
 mod ours;

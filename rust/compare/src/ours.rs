@@ -2,7 +2,9 @@
 
 use crate::numbers::Numbers;
 use crate::Case;
-use answers::functions::{hr_chunk_size, hr_headers, hr_request, hr_response, DEFAULT};
+use answers::functions::{
+    hr_chunk_size, hr_headers, hr_request, hr_response, ASCII_TARGETS, DEFAULT,
+};
 use answers::Call;
 
 #[cfg(test)]
@@ -18,14 +20,23 @@ pub fn read(case: &Case, numbers: &mut Numbers) {
     let (start, length) = (case.input.as_ptr(), case.input.len());
     let (slots, room) = (numbers.slots.pointer(), numbers.slots.numbers().len());
     let out = numbers.out.pointer();
+    let settings = settings(case);
     // SAFETY: each pointer is to as many live elements as its length says, eight for `out`, and
     // those to be written overlap nothing.
     numbers.status = unsafe {
         match case.call {
-            Call::Request => hr_request(start, length, slots, room, out, DEFAULT),
-            Call::Response => hr_response(start, length, slots, room, out, DEFAULT),
+            Call::Request => hr_request(start, length, slots, room, out, settings),
+            Call::Response => hr_response(start, length, slots, room, out, settings),
             Call::Headers => hr_headers(start, length, slots, room, out),
             Call::ChunkSize => hr_chunk_size(start, length, out),
         }
     };
+}
+
+/// The bits of the settings.
+fn settings(case: &Case) -> u32 {
+    match case.ascii_targets {
+        true => ASCII_TARGETS,
+        false => DEFAULT,
+    }
 }

@@ -1,7 +1,7 @@
 //! Heads one behind another, read by Headreader and, head by head, by httparse.
 
 use crate::numbers::{Lent, Numbers, SLOT, UNTOUCHED};
-use crate::{theirs, Case};
+use crate::{expected, Case};
 use answers::Call;
 
 extern "C" {
@@ -13,6 +13,7 @@ extern "C" {
         ends: *mut u64,
         heads: usize,
         out: *mut u64,
+        ascii_targets: bool,
     ) -> u32;
     fn harness_responses(
         start: *const u8,
@@ -37,25 +38,28 @@ pub struct Row {
     pub ends: Vec<u64>,
 }
 
-/// What Headreader answers, with this many slots and room for this many ends.
-pub fn ours(call: Call, input: &[u8], slots: usize, heads: usize) -> Row {
+/// What Headreader answers, with this many slots and room for this many ends; the setting is for
+/// requests.
+pub fn ours(call: Call, input: &[u8], slots: usize, heads: usize, ascii_targets: bool) -> Row {
     let [mut lent, mut ends, mut out] = [slots * SLOT, heads, 2].map(Lent::of);
-    let reader = match call {
-        Call::Request => harness_requests,
-        _ => harness_responses,
-    };
+    let (start, length, room) = (input.as_ptr(), input.len(), slots * SLOT);
+    let (lent_to, ends_to, out_to) = (lent.pointer(), ends.pointer(), out.pointer());
     // SAFETY: each pointer is to as many live elements as its length says, two for `out`, and
     // those to be written overlap nothing.
     let status = unsafe {
-        reader(
-            input.as_ptr(),
-            input.len(),
-            lent.pointer(),
-            slots * SLOT,
-            ends.pointer(),
-            heads,
-            out.pointer(),
-        )
+        match call {
+            Call::Request => harness_requests(
+                start,
+                length,
+                lent_to,
+                room,
+                ends_to,
+                heads,
+                out_to,
+                ascii_targets,
+            ),
+            _ => harness_responses(start, length, lent_to, room, ends_to, heads, out_to),
+        }
     };
     let guarded = [&lent, &ends, &out];
     assert!(guarded.iter().all(|lent| lent.guards_are_untouched()));
@@ -67,8 +71,9 @@ pub fn ours(call: Call, input: &[u8], slots: usize, heads: usize) -> Row {
     }
 }
 
-/// What httparse answers when it is called again and again, from each end on.
-pub fn theirs(call: Call, input: &[u8], slots: usize, heads: usize) -> Row {
+/// What httparse answers when it is called again and again, from each end on, behind the filter where
+/// targets must be plain ASCII.
+pub fn theirs(call: Call, input: &[u8], slots: usize, heads: usize, ascii_targets: bool) -> Row {
     let mut ends = vec![UNTOUCHED; heads];
     let mut numbers = Numbers::default();
     let (mut at, mut count) = (0, 0);
@@ -83,10 +88,11 @@ pub fn theirs(call: Call, input: &[u8], slots: usize, heads: usize) -> Row {
             call,
             slots,
             remainder: 0,
+            ascii_targets,
             input: &input[at..],
         };
         numbers.lend(case.room());
-        theirs::read(&case, &mut numbers);
+        expected::read(&case, &mut numbers);
         if numbers.status != 0 {
             break numbers.status;
         }

@@ -1,4 +1,4 @@
-//! How many comparisons were made, by how httparse's reading ended.
+//! How many comparisons were made, by how the reading ended.
 
 use crate::text::STATUSES;
 use answers::Call;

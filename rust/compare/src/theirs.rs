@@ -194,6 +194,7 @@ mod tests {
             call,
             slots,
             remainder: 1,
+            ascii_targets: false,
             input,
         };
         let mut numbers = Numbers::default();

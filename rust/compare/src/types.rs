@@ -38,13 +38,14 @@ impl TypesComparer {
 
     /// Counts the case, and panics if the two callers see something else on any way to read it.
     pub fn compare(&mut self, case: &Case) {
-        for &way in ways(case.call) {
-            let theirs = theirs::call(case, way);
-            if (self.caller)(case, way) != theirs {
+        let ways = ways(case);
+        for &way in ways {
+            let expected = expected(case, way);
+            if (self.caller)(case, way) != expected {
                 panic!("{}", self.report(case, way));
             }
-            if way == Way::Alone {
-                self.tally.count(theirs.status());
+            if way == ways[0] {
+                self.tally.count(expected.status());
             }
         }
     }
@@ -55,21 +56,35 @@ impl TypesComparer {
 
     /// What is said of a case on which the two differ, with the shortest input that shows it.
     fn report(&self, case: &Case, way: Way) -> String {
-        let differ = |case: &Case| (self.caller)(case, way) != theirs::call(case, way);
+        let differ = |case: &Case| (self.caller)(case, way) != expected(case, way);
         let input = shrink(case.input, |input| differ(&Case { input, ..*case }));
         let shortest = Case {
             input: &input,
             ..*case
         };
         format!(
-            "callers of {} and httparse differ on this query ({way:?}):\n{}\n{}: {:?}\nhttparse: {:?}",
+            "callers of {} and httparse differ on this query ({way:?}):\n{shortest}\n{}: {:?}\nhttparse: {:?}",
             self.name,
-            shortest.query(),
             self.name,
             (self.caller)(&shortest, way),
-            theirs::call(&shortest, way)
+            expected(&shortest, way)
         )
     }
+}
+
+/// What a caller of httparse sees, behind the filter of [`crate::expected`] where targets must be
+/// plain ASCII.
+fn expected(case: &Case, way: Way) -> Seen {
+    if let Some(ascii) = case.ascii_part() {
+        let seen = theirs::call(&ascii, way);
+        if seen.ends_in_target() {
+            return Seen {
+                ended: vec![theirs::fault(httparse::Error::Token)],
+                ..seen
+            };
+        }
+    }
+    theirs::call(case, way)
 }
 
 #[cfg(test)]
@@ -85,6 +100,7 @@ mod tests {
             call: Call::Request,
             slots,
             remainder: 0,
+            ascii_targets: false,
             input,
         }
     }
@@ -166,5 +182,52 @@ a wrong library: Seen { ended: [Error { name: \"Token\", text: \"invalid token\"
     fn a_difference_is_told_with_the_shortest_input() {
         let long = [HEAD, &b"\x80".repeat(100)].concat();
         TypesComparer::of("a wrong library", wrong_at_0x80).compare(&case(2, &long));
+    }
+
+    /// A caller of Headreader that forgets the setting.
+    fn without_settings(case: &Case, way: Way) -> Seen {
+        let off = Case {
+            ascii_targets: false,
+            ..*case
+        };
+        ours::call(&off, way)
+    }
+
+    #[test]
+    #[should_panic(
+        expected = "callers of a wrong setting and httparse differ on this query (Settings):
+request\tdefault\t2\t\"a \\xe9\"
+with targets in plain ASCII, and httparse behind a filter
+a wrong setting: Seen { ended: [Partial]"
+    )]
+    fn a_setting_that_is_forgotten_is_told() {
+        TypesComparer::of("a wrong setting", without_settings).compare(&Case {
+            ascii_targets: true,
+            ..case(2, b"\r\nGET /caf\xe9")
+        });
+    }
+
+    #[test]
+    fn a_target_beyond_ascii_is_seen_to_be_refused() {
+        let case = Case {
+            ascii_targets: true,
+            ..case(2, b"\nPUT /\xc3\xa9 HTTP/1.1\nHost: a\n\n")
+        };
+        for way in [Way::Settings, Way::SettingsUninit] {
+            for seen in [ours::call(&case, way), expected(&case, way)] {
+                let token = Ended::Error {
+                    name: "Token".to_string(),
+                    text: "invalid token".to_string(),
+                };
+                assert_eq!(seen.ended, [token]);
+                let line = Line {
+                    method: Some(place(1, 3)),
+                    ..Line::default()
+                };
+                assert_eq!(seen.line, line);
+                assert_eq!(seen.list, Some(place(0, way.own_slots(2))));
+                assert!(seen.slots.iter().all(|slot| slot == &seen.slots[2]));
+            }
+        }
     }
 }

@@ -18,6 +18,7 @@ fn compare(head: &Head, input: &[u8], comparer: &mut Comparer) {
             call: head.call,
             slots,
             remainder: input.len() % 4,
+            ascii_targets: false,
             input,
         });
     }

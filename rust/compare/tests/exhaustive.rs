@@ -12,6 +12,7 @@ fn compare(call: Call, input: &[u8], comparer: &mut Comparer) {
             call,
             slots,
             remainder: input.len() % 4,
+            ascii_targets: false,
             input,
         });
     }

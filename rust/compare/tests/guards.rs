@@ -24,6 +24,7 @@ fn compare(call: Call, headers: usize, input: &[u8], comparer: &mut Comparer) {
                 call,
                 slots,
                 remainder,
+                ascii_targets: false,
                 input,
             });
         }

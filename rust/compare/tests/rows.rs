@@ -31,7 +31,7 @@ fn row(shapes: &[Shape], random: &mut Random) -> (Vec<u8>, Vec<u64>) {
 
 /// Where the head ends and what stands behind it begins.
 fn end(head: &Head) -> usize {
-    let alone = theirs(head.call, &head.bytes, head.headers, 1);
+    let alone = theirs(head.call, &head.bytes, head.headers, 1, false);
     alone.ends[0] as usize
 }
 
@@ -58,7 +58,7 @@ fn rows_of_heads() {
         let shapes = short(call);
         for _ in 0..ROWS {
             let (good, ends) = row(&shapes, &mut random);
-            let all = ours(call, &good, 100, ends.len());
+            let all = ours(call, &good, 100, ends.len(), false);
             assert_eq!((all.status, all.count), (0, ends.len() as u64));
             assert_eq!(all.ends, ends);
             let damage = random.below(2) == 0;
@@ -68,8 +68,9 @@ fn rows_of_heads() {
                 good
             };
             let (slots, room) = (random.below(10), random.below(8));
-            let found = ours(call, &input, slots, room);
-            let expected = theirs(call, &input, slots, room);
+            let ascii = random.below(2) == 0;
+            let found = ours(call, &input, slots, room, ascii);
+            let expected = theirs(call, &input, slots, room, ascii);
             assert_eq!(found, expected, "{call}: {}", input.escape_ascii());
             seen[found.status as usize] += 1;
             heads += found.count;

@@ -29,14 +29,20 @@ fn compare(call: Call, slots: &[usize], input: &[u8], comparer: &mut TypesCompar
             call,
             slots,
             remainder: 0,
+            ascii_targets: false,
             input,
         });
     }
 }
 
+/// The setting that httparse does not have is shown behind those that it has.
 #[test]
 fn texts() {
-    assert_eq!(our_texts(), their_texts());
+    let shown = ", ascii_targets: false }";
+    let ours = our_texts();
+    assert_eq!(ours.iter().filter(|text| text.contains(shown)).count(), 1);
+    let ours: Vec<String> = ours.iter().map(|text| text.replace(shown, " }")).collect();
+    assert_eq!(ours, their_texts());
 }
 
 fn compare_strings(call: Call) {

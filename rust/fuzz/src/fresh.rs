@@ -23,6 +23,7 @@ pub fn fresh(longest: usize, random: &mut Random) -> Option<Vec<u8>> {
         call: head.call,
         slots: random.choose(&[0, few, head.headers, head.headers + 1]),
         remainder: random.below(4),
+        ascii_targets: random.below(2) == 0,
         input: &head.bytes,
     });
     (row.len() <= longest).then_some(row)

@@ -8,7 +8,7 @@ extern "C" {
     fn harness_skip(class: u8, start: *const u8, length: usize, at: usize) -> usize;
 }
 
-/// The classes of bytes, numbered as in crates/harness; the first five have a skip.
+/// The classes of bytes, numbered as in crates/harness; the first six have a skip.
 #[derive(Clone, Copy, Debug, PartialEq)]
 pub enum Class {
     Token,
@@ -16,26 +16,29 @@ pub enum Class {
     Value,
     Blank,
     Ascii,
+    Visible,
     Digit,
     HexDigit,
 }
 
-pub const CLASSES: [Class; 7] = [
+pub const CLASSES: [Class; 8] = [
     Class::Token,
     Class::Target,
     Class::Value,
     Class::Blank,
     Class::Ascii,
+    Class::Visible,
     Class::Digit,
     Class::HexDigit,
 ];
 
-pub const SKIPPED: [Class; 5] = [
+pub const SKIPPED: [Class; 6] = [
     Class::Token,
     Class::Target,
     Class::Value,
     Class::Blank,
     Class::Ascii,
+    Class::Visible,
 ];
 
 /// Whether the bytes are well-formed UTF-8.

@@ -9,6 +9,7 @@ fn expected(class: Class, byte: u8) -> bool {
         Class::Value => matches!(byte, 0x09 | 0x20..=0x7E | 0x80..=0xFF),
         Class::Blank => byte == b' ' || byte == b'\t',
         Class::Ascii => byte.is_ascii(),
+        Class::Visible => byte.is_ascii_graphic(),
         Class::Digit => byte.is_ascii_digit(),
         Class::HexDigit => byte.is_ascii_hexdigit(),
     }

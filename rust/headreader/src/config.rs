@@ -1,13 +1,15 @@
 //! Settings.
 
+use crate::library::ASCII_TARGETS;
 use crate::{Header, Request, Response, Result};
 use core::mem::MaybeUninit;
 
-/// How lenient the reading is.
+/// How lenient or strict the reading is.
 ///
-/// There are only the default settings, all of which are off: httparse's setters will come one by
-/// one, each with the proof of what its setting does. A caller that needs one cannot use Headreader
-/// yet, and learns so from the compiler.
+/// All settings are off by default. [`ascii_targets`](ParserConfig::ascii_targets) is the one that
+/// can be set, and httparse does not have it; httparse's setters will come one by one, each with the
+/// proof of what its setting does. A caller that needs one of these cannot use Headreader yet, and
+/// learns so from the compiler.
 ///
 /// ```
 /// let mut headers = [headreader::EMPTY_HEADER; 16];
@@ -29,9 +31,52 @@ pub struct ParserConfig {
     allow_space_before_first_header_name: bool,
     ignore_invalid_headers_in_responses: bool,
     ignore_invalid_headers_in_requests: bool,
+    ascii_targets: bool,
 }
 
 impl ParserConfig {
+    /// Sets whether a request's target may have visible ASCII only, the bytes 0x21 to 0x7E.
+    ///
+    /// With it on, any other byte in a target is [`Error::Token`](crate::Error::Token) as soon as it
+    /// is there, whatever follows. With it off, bytes from 0x80 on may stand in a target too, and
+    /// are an error only at the space behind it and only if the target is no UTF-8. It is for servers
+    /// that cannot take such a target, and has no effect on a response, which has none.
+    ///
+    /// ```
+    /// use headreader::{Error, ParserConfig, Request, Status};
+    ///
+    /// let head = "GET /caf\u{e9} HTTP/1.1\r\n\r\n".as_bytes();
+    /// let mut request = Request::new(&mut []);
+    /// assert_eq!(request.parse(head), Ok(Status::Complete(head.len())));
+    ///
+    /// let mut config = ParserConfig::default();
+    /// config.ascii_targets(true);
+    /// let mut request = Request::new(&mut []);
+    /// assert_eq!(config.parse_request(&mut request, &head[..8]), Ok(Status::Partial));
+    /// assert_eq!(config.parse_request(&mut request, &head[..9]), Err(Error::Token));
+    /// ```
+    #[inline]
+    pub fn ascii_targets(&mut self, value: bool) -> &mut Self {
+        self.ascii_targets = value;
+        self
+    }
+
+    /// Whether a request's target may have visible ASCII only.
+    #[inline]
+    pub fn targets_are_ascii(&self) -> bool {
+        self.ascii_targets
+    }
+
+    /// The bits by which the proved code knows the settings.
+    #[inline]
+    fn bits(&self) -> u32 {
+        if self.ascii_targets {
+            ASCII_TARGETS
+        } else {
+            0
+        }
+    }
+
     /// Reads as [`Request::parse`] does, with these settings.
     #[inline]
     pub fn parse_request<'buf>(
@@ -39,7 +84,7 @@ impl ParserConfig {
         request: &mut Request<'_, 'buf>,
         buf: &'buf [u8],
     ) -> Result<usize> {
-        request.read(buf)
+        request.read(buf, self.bits())
     }
 
     /// Reads as [`Request::parse_with_uninit_headers`] does, with these settings.
@@ -50,7 +95,7 @@ impl ParserConfig {
         buf: &'buf [u8],
         headers: &'headers mut [MaybeUninit<Header<'buf>>],
     ) -> Result<usize> {
-        request.read_into(buf, headers)
+        request.read_into(buf, headers, self.bits())
     }
 
     /// Reads as [`Response::parse`] does, with these settings.
@@ -60,7 +105,7 @@ impl ParserConfig {
         response: &mut Response<'_, 'buf>,
         buf: &'buf [u8],
     ) -> Result<usize> {
-        response.read(buf)
+        response.read(buf, self.bits())
     }
 
     /// Reads as [`Response::parse`] does, with these settings and into memory with no headers in it
@@ -75,6 +120,6 @@ impl ParserConfig {
         buf: &'buf [u8],
         headers: &'headers mut [MaybeUninit<Header<'buf>>],
     ) -> Result<usize> {
-        response.read_into(buf, headers)
+        response.read_into(buf, headers, self.bits())
     }
 }

@@ -2,11 +2,12 @@
 //! headers alone, and the line that says how long a chunk of a body is.
 //!
 //! The interface is that of the crate httparse 1.10.1, by name and type, but for the setters of
-//! [`ParserConfig`], which come later; the answers are those of httparse's default settings. What
-//! reads is Headreader: code in which every function is proved to meet its contract. A complete
-//! answer means that a head ends there and that the fields are its own; an error, that no head that
-//! fits the lent headers begins there; partial, that none has ended yet; and none of them changes
-//! when more bytes arrive. `docs/PROVED.md` in Headreader's repository says what is proved.
+//! [`ParserConfig`]: httparse's own come later, and [`ascii_targets`](ParserConfig::ascii_targets)
+//! is ours. The answers are those of httparse's default settings unless that is on. What reads is
+//! Headreader: code in which every function is proved to meet its contract. A complete answer means
+//! that a head ends there and that the fields are its own; an error, that no head that fits the lent
+//! headers begins there; partial, that none has ended yet; and none of them changes when more bytes
+//! arrive. `docs/PROVED.md` in Headreader's repository says what is proved.
 //!
 //! Nothing is copied and nothing is allocated: names and values are parts of the caller's buffer,
 //! and the headers stand in memory that the caller lends.
@@ -65,7 +66,9 @@
 //! For a program that sets nothing of [`ParserConfig`], this line in its `Cargo.toml` is the whole
 //! change: `httparse = { package = "headreader", path = ".." }`. What is not as in httparse:
 //!
-//! - [`ParserConfig`] has no setters yet, so every head is read with the default settings.
+//! - [`ParserConfig`] does not have httparse's setters yet, so all that they set is off. Its setting
+//!   [`ascii_targets`](ParserConfig::ascii_targets) is not httparse's, and is shown for debugging
+//!   behind those that are.
 //! - An empty [`reason`](Response::reason) is the empty slice at the buffer's start. httparse gives
 //!   its place where a space stands behind the code and nothing behind that, and else a constant.
 //! - Only targets with 64-bit pointers are supported.

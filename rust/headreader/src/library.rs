@@ -38,8 +38,8 @@ extern "C" {
     fn hr_chunk_size(buffer: *const u8, length: usize, out: *mut Out) -> u32;
 }
 
-/// All settings off: httparse's come one by one, each with its bit.
-const SETTINGS: u32 = 0;
+/// The bit of the setting under which a target has visible ASCII only; with no bit all are off.
+pub const ASCII_TARGETS: u32 = 128;
 
 /// The bits of the fields that are known.
 const METHOD: usize = 1;
@@ -70,11 +70,12 @@ pub struct StatusLine<'buf> {
     pub reason: Option<&'buf str>,
 }
 
-/// Reads the head of a request.
+/// Reads the head of a request under settings, which are told by their bits.
 #[inline]
 pub fn request<'lent, 'buf>(
     buffer: &'buf [u8],
     slots: Slots<'lent, 'buf>,
+    settings: u32,
 ) -> Answer<'lent, 'buf, RequestLine<'buf>> {
     let (start, length) = (buffer.as_ptr(), buffer.len());
     let (numbers, room) = (slots.numbers(), slots.room());
@@ -82,7 +83,7 @@ pub fn request<'lent, 'buf>(
     // SAFETY: the call demands nothing but that each pointer is to as many numbers as are said,
     // eight for `out`, and that what it writes is lent to it alone; what the slots hold does not
     // matter to it, and by `untouched` it is kept in those not given.
-    let kind = unsafe { hr_request(start, length, numbers, room, &mut out, SETTINGS) };
+    let kind = unsafe { hr_request(start, length, numbers, room, &mut out, settings) };
     let [end, given, known, method, method_length, target, target_length, version] = out;
     // SAFETY: that call was lent these slots and this buffer, and nothing has touched the slots
     // since.
@@ -91,7 +92,7 @@ pub fn request<'lent, 'buf>(
     let method =
         is_in(known, METHOD).then(|| unsafe { piece::text(buffer, method, method_length) });
     // SAFETY: by `inside` a known target lies in the buffer and is a `request-target`, which is
-    // visible ASCII or else UTF-8.
+    // visible ASCII or else UTF-8, whatever the settings.
     let target =
         is_in(known, TARGET).then(|| unsafe { piece::text(buffer, target, target_length) });
     let version = is_in(known, VERSION).then_some(version as u8);
@@ -106,17 +107,18 @@ pub fn request<'lent, 'buf>(
     }
 }
 
-/// Reads the head of a response.
+/// Reads the head of a response under settings, which are told by their bits.
 #[inline]
 pub fn response<'lent, 'buf>(
     buffer: &'buf [u8],
     slots: Slots<'lent, 'buf>,
+    settings: u32,
 ) -> Answer<'lent, 'buf, StatusLine<'buf>> {
     let (start, length) = (buffer.as_ptr(), buffer.len());
     let (numbers, room) = (slots.numbers(), slots.room());
     let mut out = Out::default();
     // SAFETY: as for a request.
-    let kind = unsafe { hr_response(start, length, numbers, room, &mut out, SETTINGS) };
+    let kind = unsafe { hr_response(start, length, numbers, room, &mut out, settings) };
     let [end, given, known, version, code, reason, reason_length, _] = out;
     // SAFETY: that call was lent these slots and this buffer, and nothing has touched the slots
     // since.

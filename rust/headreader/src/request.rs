@@ -63,12 +63,12 @@ impl<'headers, 'buf> Request<'headers, 'buf> {
     }
 
     #[inline]
-    pub(crate) fn read(&mut self, buffer: &'buf [u8]) -> Result<usize> {
+    pub(crate) fn read(&mut self, buffer: &'buf [u8], settings: u32) -> Result<usize> {
         let Answer {
             result,
             line,
             headers,
-        } = library::request(buffer, (&mut *self.headers).into());
+        } = library::request(buffer, (&mut *self.headers).into(), settings);
         let given = headers.len();
         self.learn(line);
         if result.is_ok_and(|status| status.is_complete()) {
@@ -82,12 +82,13 @@ impl<'headers, 'buf> Request<'headers, 'buf> {
         &mut self,
         buffer: &'buf [u8],
         headers: &'headers mut [MaybeUninit<Header<'buf>>],
+        settings: u32,
     ) -> Result<usize> {
         let Answer {
             result,
             line,
             headers,
-        } = library::request(buffer, headers.into());
+        } = library::request(buffer, headers.into(), settings);
         self.learn(line);
         if result.is_ok_and(|status| status.is_complete()) {
             self.headers = headers;

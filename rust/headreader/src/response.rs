@@ -41,12 +41,12 @@ impl<'headers, 'buf> Response<'headers, 'buf> {
     }
 
     #[inline]
-    pub(crate) fn read(&mut self, buffer: &'buf [u8]) -> Result<usize> {
+    pub(crate) fn read(&mut self, buffer: &'buf [u8], settings: u32) -> Result<usize> {
         let Answer {
             result,
             line,
             headers,
-        } = library::response(buffer, (&mut *self.headers).into());
+        } = library::response(buffer, (&mut *self.headers).into(), settings);
         let given = headers.len();
         self.learn(line);
         if result.is_ok_and(|status| status.is_complete()) {
@@ -60,12 +60,13 @@ impl<'headers, 'buf> Response<'headers, 'buf> {
         &mut self,
         buffer: &'buf [u8],
         headers: &'headers mut [MaybeUninit<Header<'buf>>],
+        settings: u32,
     ) -> Result<usize> {
         let Answer {
             result,
             line,
             headers,
-        } = library::response(buffer, headers.into());
+        } = library::response(buffer, headers.into(), settings);
         self.learn(line);
         if result.is_ok_and(|status| status.is_complete()) {
             self.headers = headers;

@@ -43,6 +43,6 @@ fn what_is_partial_has_nothing_to_unwrap() {
 #[test]
 fn settings_are_off() {
     let shown = format!("{:?}", ParserConfig::default());
-    assert_eq!(shown.matches(": false").count(), 7);
+    assert_eq!(shown.matches(": false").count(), 8);
     assert!(!shown.contains("true"));
 }

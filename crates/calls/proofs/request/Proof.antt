@@ -1,9 +1,10 @@
 -- The call tells what an exact reader answers, and so keeps its promises.
 -- Assumes nothing.
 use borrow.Author.Needs.{needs}
+use Rattle.agreement.specs.Starts.{settings-fixed}
 use Rattle.agreement.specs.Calls.{request-promise}
 use Rattle.calls.proofs.request.Statement.{statement}
 use Rattle.calls.proofs.request.Tie as tie
 
 pub request-spec : {M : Type 1} → statement M
-request-spec = tie.close (tie.spec (λ c κs. search needs) (λ c. search needs) (λ c. let t = c .before .before .request .ensures in (t, request-promise t)))
+request-spec = tie.close (tie.spec (λ c κs. search needs) (λ c. search needs) (λ c. let t = c .before .before .request .ensures in (t, request-promise (settings-fixed (c .before .before .before .before .before .before .args .settings)) t)))

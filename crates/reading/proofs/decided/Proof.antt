@@ -7,10 +7,10 @@ use Rattle.reading.proofs.decided.Statement.{statement}
 use Rattle.reading.proofs.decided.Tie as tie
 
 abbrev Inv-loop : tie.InvT-loop
-Inv-loop kind s low₀ high₀ low high = high ≤ length s
+Inv-loop kind s settings low₀ high₀ low high = high ≤ length s
 
 abbrev μ-loop : tie.MeasureT-loop
-μ-loop kind s low₀ high₀ low high = high - low
+μ-loop kind s settings low₀ high₀ low high = high - low
 
 pub decided-spec : {M : Type 1} → statement M
 decided-spec =

@@ -3,7 +3,7 @@
 use super::form::{fields, form, numbers};
 use super::{write, Written, UNTOUCHED};
 use crate::numbers::Numbers;
-use crate::{ours, theirs, Case};
+use crate::{expected, ours, Case};
 
 /// What is put behind a plain form before it is read back: a library must not care.
 const BEHIND: &[u8] = b"A: b\r\n";
@@ -47,10 +47,11 @@ impl RoundTrip {
             call: case.call,
             slots: answer.out.numbers()[1] as usize,
             remainder: 0,
+            ascii_targets: case.ascii_targets,
             input: &self.written,
         };
         self.back.lend(plain.room());
-        theirs::read(&plain, &mut self.back);
+        expected::read(&plain, &mut self.back);
         let end = self.back.out.numbers()[0] as usize;
         expect("httparse's status", self.back.status, 0)?;
         expect("httparse's end", end, length)?;
@@ -125,6 +126,7 @@ mod tests {
             call,
             slots: 1,
             remainder: 0,
+            ascii_targets: false,
             input: INPUT,
         };
         RoundTrip::default().go(&case, answer)

@@ -1,6 +1,7 @@
 //! A caller that looks at all that it gets; compiled once for each library.
 
-use super::library::{self, Header, ParserConfig, Request, Response, Status};
+use super::config;
+use super::library::{self, Header, Request, Response, Status};
 use crate::types::seen::{
     place, Ended, Line, Place, Seen, Way, OTHER_REQUEST, OTHER_RESPONSE, UNTOUCHED,
 };
@@ -35,7 +36,7 @@ fn request<'input>(case: &Case<'input>, way: Way, memory: &mut [Header<'input>])
     let first = memory.as_ptr();
     let (own, rest) = memory.split_at_mut(way.own_slots(case.slots));
     let lent = uninit(rest);
-    let config = ParserConfig::default();
+    let config = config(case);
     let mut request = Request::new(own);
     let results = match way {
         Way::Alone => vec![request.parse(input)],
@@ -70,7 +71,7 @@ fn response<'input>(case: &Case<'input>, way: Way, memory: &mut [Header<'input>]
     let first = memory.as_ptr();
     let (own, rest) = memory.split_at_mut(way.own_slots(case.slots));
     let lent = uninit(rest);
-    let config = ParserConfig::default();
+    let config = config(case);
     let mut response = Response::new(own);
     let results = match way {
         Way::Alone => vec![response.parse(input)],
@@ -157,7 +158,7 @@ fn ended(result: library::Result<usize>) -> Ended {
     }
 }
 
-fn fault(error: impl Debug + Display) -> Ended {
+pub fn fault(error: impl Debug + Display) -> Ended {
     Ended::Error {
         name: format!("{error:?}"),
         text: error.to_string(),

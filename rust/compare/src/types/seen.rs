@@ -1,6 +1,7 @@
 //! All that a caller can see of one case, and the ways to read it.
 
 use crate::text::STATUSES;
+use crate::Case;
 use answers::Call;
 
 /// A way to read a case.
@@ -33,9 +34,12 @@ impl Way {
     }
 }
 
-/// Every way to read what a call reads.
-pub fn ways(call: Call) -> &'static [Way] {
-    match call {
+/// Every way to read a case; all but two read without settings.
+pub fn ways(case: &Case) -> &'static [Way] {
+    match case.call {
+        Call::Request | Call::Response if case.ascii_targets => {
+            &[Way::Settings, Way::SettingsUninit]
+        }
         Call::Request => &[
             Way::Alone,
             Way::Settings,
@@ -93,6 +97,11 @@ impl Seen {
             .iter()
             .position(|&status| status.trim_start_matches("error ") == name);
         status.unwrap_or_else(|| panic!("{name} is no status")) as u32
+    }
+
+    /// Whether a request ran out of bytes in its target, or right in front of it.
+    pub fn ends_in_target(&self) -> bool {
+        self.ended == [Ended::Partial] && self.line.method.is_some() && self.line.path.is_none()
     }
 }
 

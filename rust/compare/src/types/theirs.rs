@@ -1,5 +1,6 @@
 //! A caller of httparse.
 
+use crate::Case;
 use httparse as library;
 
 #[path = "caller.rs"]
@@ -7,7 +8,12 @@ mod caller;
 #[path = "interface.rs"]
 mod interface;
 
-pub use caller::call;
+pub use caller::{call, fault};
 #[cfg(test)]
 pub use interface::name;
 pub use interface::texts;
+
+/// The settings of a case, of which httparse has none.
+fn config(_: &Case) -> library::ParserConfig {
+    library::ParserConfig::default()
+}

@@ -1,7 +1,7 @@
 //! seeds FOLDER RECORDED EXAMPLE..: writes what fuzzing begins with to a folder, a file for each call.
 //!
 //! RECORDED is a file of recorded answers, of which the queries are taken; each EXAMPLE is read by
-//! every call. To these come new heads of every shape.
+//! every call. To these come new heads of every shape, with the setting off and on.
 
 use answers::recorded::rows;
 use compare::{Case, Random, CALLS};
@@ -48,16 +48,20 @@ fn seeds(recorded: &Path, examples: &[PathBuf]) -> Result<Vec<Vec<u8>>, String> 
                 call,
                 slots: SLOTS,
                 remainder: 0,
+                ascii_targets: false,
                 input: &input,
             })
         }));
     }
     for head in heads(LONGEST, &mut Random::new(SEED)) {
-        seeds.push(write(&Case {
-            call: head.call,
-            slots: head.headers,
-            remainder: 0,
-            input: &head.bytes,
+        seeds.extend([false, true].map(|ascii_targets| {
+            write(&Case {
+                call: head.call,
+                slots: head.headers,
+                remainder: 0,
+                ascii_targets,
+                input: &head.bytes,
+            })
         }));
     }
     Ok(seeds)
@@ -72,6 +76,7 @@ fn recorded_calls(recorded: &Path) -> Result<Vec<Vec<u8>>, String> {
             call: query.call,
             slots: query.slots,
             remainder: 0,
+            ascii_targets: false,
             input: &query.input,
         })
     };

@@ -1,0 +1,73 @@
+-- Where targets are plain ASCII, a byte that is not is refused at once, whatever follows it, and the method is known.
+-- Assumes nothing.
+use Prim.Native.Nat.{ℕ, _+_}
+use native.Mathlib.Omega.{arith}
+use mathlib.Core.Path.{_≡_, refl, sym, ap, _∙_}
+use mathlib.Core.List.{List, [], _∷_, _++_, append-assoc}
+use mathlib.Core.Bool.{Bool, false}
+use lib.Dec.{eqb}
+use lib.ListN.{length, drop, length-append}
+use lib.Seq.{drop-at}
+use borrow.Author.Tests.{ne-eqb}
+use Rattle.reader.specs.Machine.{more as wants, refused, run}
+use Rattle.reader.specs.Seq.{first}
+use Rattle.reader.specs.Answer.{got, bad, answer}
+use Rattle.reader.specs.Chain.{nothing, chain}
+use Rattle.octets.specs.Grammar.{VCHAR}
+use Rattle.octets.specs.Class.{isToken, isVisible}
+use Rattle.octets.specs.Ties.{token-is-tchar, visible-is-VCHAR}
+use Rattle.octets.specs.Outside.{space-no-token}
+use Rattle.rules.specs.Rules.{Rules}
+use Rattle.grammar.specs.Rows.{Many, none, more, some}
+use Rattle.grammar.specs.Message.{empty-lines, method, space}
+use Rattle.parts.specs.declared.Error.the-variants.{Token}
+use Rattle.parts.specs.Answers.{piece}
+use Rattle.parts.specs.EmptyLines.{start, emptyLines}
+use Rattle.words.specs.Word.{wordStep, word}
+use Rattle.words.specs.Word as words
+use Rattle.words.specs.Target.{Utf8, none as no-byte, some as inside, feed, targetByte, targetStep, target}
+use Rattle.requestline.specs.RequestLine as requests
+use Rattle.heads.specs.Head.{head-parts, headed, over}
+use Rattle.heads.specs.Calls.{request}
+use Rattle.blocks.specs.Block.{block}
+use Rattle.leaves.specs.Rows.{In}
+use Rattle.leaves.specs.EmptyLines.{exact-empties}
+use Rattle.leaves.specs.Word.{exact-word}
+use Rattle.agreement.specs.Rows.{many-as, in-token}
+use Rattle.agreement.specs.Request.{method-stops}
+
+module _ (class : ℕ → Bool) (b : ℕ) (outside : class b ≡ false) (no-space : eqb b 32 ≡ false) where
+  inside-refused : (o : ℕ) (f : Utf8) {t : List ℕ} → Many (In class) t → (p : ℕ) (u : List ℕ) → (q : ℕ) × (run (targetStep class) (inside o f) p (t ++ (b ∷ u)) ≡ refused Token q)
+  inside-refused o f none p u = (p, rw (outside, no-space))
+  inside-refused o f (more {b = c} h k) p u = rw h (inside-refused o (feed f p c) k (p + 1) u)
+
+  target-refused : {t : List ℕ} → Many (In class) t → (p : ℕ) (u : List ℕ) → (q : ℕ) × (run (targetStep class) no-byte p (t ++ (b ∷ u)) ≡ refused Token q)
+  target-refused none p u = (p, rw outside)
+  target-refused (more {b = c} h k) p u = rw h (inside-refused p (feed (wants []) p c) k (p + 1) u)
+
+module _ {r : Rules} (ascii : r .any-target ≡ false) (n : ℕ) {e t : List ℕ} (u : List ℕ) {b : ℕ} where
+  -- empty lines, a method, a space and the visible bytes t of a target, then the byte, and whatever follows
+  pub token-at-once : {m : List ℕ} → empty-lines r e → method m → Many VCHAR t → isVisible b ≡ false → (b ≡ 32 → ⊥) → request r n (e ++ ((m ++ space) ++ (t ++ (b ∷ u)))) ≡ bad (Token, (requests.withMethod requests.unread (piece (length e) (length e + length m)), []))
+  unfolding request
+  token-at-once {m} empty (some {b = c} {w = m′} x k) visible outside no-space =
+      let class : ℕ → Bool = targetByte (r .any-target) in
+      let rest : List ℕ = t ++ (b ∷ u) in
+      let z : List ℕ = e ++ ((m ++ space) ++ rest) in
+      let i : ℕ = length e in
+      let j : ℕ = i + length (m ++ space) in
+      let line = requests.withMethod requests.unread (piece i (i + length m)) in
+      let from : 0 + i ≡ i = omega arith in
+      let lines : emptyLines r z 0 ≡ got tt i =
+      ap (answer nothing) (exact-empties r .complete 0 e ((m ++ space) ++ rest) tt (record { lines = empty; stops = method-stops r c _ (token-is-tchar c .1 x) })) ∙ ap (got tt) from in
+      let named : word isToken 32 Token z i ≡ got (piece i (i + length m)) j =
+      ap (λ y. answer nothing (run (wordStep isToken 32 Token) words.none i y)) (drop-at e ((m ++ space) ++ rest) i refl)
+      ∙ ap (answer nothing) (exact-word isToken 32 Token space-no-token .complete i (m ++ space) rest (piece i (i + length m)) (record { v = m; kind = in-token (some x k); whole = refl; place = refl })) in
+      let behind : drop j z ≡ rest = ap (drop j) (sym (append-assoc e (m ++ space) rest)) ∙ drop-at (e ++ (m ++ space)) rest j (length-append e (m ++ space)) in
+      let kind : Many (In class) t = many-as (λ a h. rw ascii (visible-is-VCHAR a .1 h)) visible in
+      let wrong : target class z j ≡ bad Token =
+      ap (λ y. answer nothing (run (targetStep class) no-byte j y)) behind ∙ ap (answer nothing) (target-refused class b (rw ascii outside) (ne-eqb b 32 no-space) kind j u .1) in
+      let read : requests.requestLine r z 0 ≡ bad (Token, line) =
+      sym (requests.request-line-whole r z 0 refl) ∙ ap (λ a. chain requests.unread (λ _. requests.unread) a (requests.fromMethod r z)) lines
+      ∙ ap (λ a. chain requests.unread (requests.withMethod requests.unread) a (requests.fromTarget r z)) named
+      ∙ ap (λ a. chain line (requests.withTarget line) a (requests.fromVersion r z)) wrong in
+      head-parts r n (requests.requestLineStep r) requests.lineKnown (first start) z ∙ ap (λ a. headed a (λ k q. over k (block r n [] z q))) read

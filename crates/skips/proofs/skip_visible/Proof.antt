@@ -1,0 +1,36 @@
+-- `skips::skip_visible` meets its contract: every byte that the loop has passed is of the class, and it stops at the first that is not.
+-- Assumes nothing.
+use Prim.Native.Nat.{_-_}
+use borrow.Author.Needs.{needs}
+use lib.ListN.{length}
+use Rattle.reader.specs.Skip.{Passed}
+use Rattle.skips.specs.Ahead.{aheads}
+use Rattle.octets.specs.Class.{isVisible}
+use Rattle.skips.proofs.skip_visible.Statement.{statement}
+use Rattle.skips.proofs.skip_visible.Tie as tie
+
+abbrev Inv-loop : tie.InvT-loop
+Inv-loop s at i₀ i = Passed isVisible s at i
+
+abbrev μ-loop : tie.MeasureT-loop
+μ-loop s at i₀ i = length s - i
+
+pub skip-visible-spec : {M : Type 1} → statement M
+skip-visible-spec =
+    tie.close
+    (tie.spec
+    Inv-loop
+    μ-loop
+    (λ c. search (needs, aheads))
+    (λ c κs. search needs)
+    (λ c. search needs)
+    (λ c. search needs)
+    (λ c. search (needs, aheads))
+    (λ c. search needs)
+    (λ c. search (needs, aheads))
+    (λ c κs. search needs)
+    (λ c. search (needs, aheads))
+    (λ c. search (needs, aheads))
+    (λ c. search (needs, aheads))
+    (λ c. search (needs, aheads))
+    (λ c. search (needs, aheads)))
