@@ -23,12 +23,13 @@ pub record Export {A : Type 0} (Told Promised : A → Type 0) (kindIs : A → �
   pub kind : r ≡ kindIs answer
   pub numbers : out ≡ numbersOf answer
 
--- a request by the rules that the bits of the settings choose
+-- a request, by any rules
 abbrev pub ExportBy : Rules → List ℕ → List ℕ → ℕ → List ℕ → List ℕ → Type 0
 ExportBy rules s old r out new =
     Export (λ h. Told (request rules (length old / 4) s) (h .end) (h .line) (h .count) old new) (λ h. HeadPromise (request-head rules) RequestSays (RequestInside rules) s old (h .end) (h .line) (h .count) new) (λ h. kindOf (h .end)) requestNumbers r out
 
 module _ (s old : List ℕ) (r : ℕ) (out new : List ℕ) where
+  -- by those that the bits of the settings choose
   abbrev pub RequestExport : ℕ → Type 0
   RequestExport bits = ExportBy (rulesOf (settingsOf bits)) s old r out new
 

@@ -4,7 +4,6 @@ use Prim.Native.Nat.{ℕ, _+_, _/_, _%_}
 use mathlib.Core.Path.{_≡_, sym, ap, subst, _∙_}
 use mathlib.Core.List.{List, [], _∷_}
 use mathlib.Core.Bool.{cond}
-use lib.ListN.{length}
 use lib.Dec.{eqb}
 use borrow.Author.Tests.{eq-eqb, ne-eqb}
 use Rattle.parts.specs.declared.Piece.{Piece}
@@ -14,17 +13,13 @@ use Rattle.startline.specs.Answers.{numberOf}
 use Rattle.rules.specs.declared.Settings.{Settings}
 use Rattle.rules.specs.Rules.{default}
 use Rattle.rules.specs.Settings.{rulesOf, off, ascii-targets}
-use Rattle.grammar.specs.Message.{request-head}
-use Rattle.heads.specs.Head.{Told}
-use Rattle.heads.specs.Calls.{request}
-use Rattle.agreement.specs.Known.{RequestSays, RequestInside}
 use Rattle.heads.specs.declared.RequestHead.{RequestHead}
 use Rattle.heads.specs.declared.ResponseHead.{ResponseHead}
 use Rattle.blocks.specs.declared.Block.{Block}
 use Rattle.chunks.specs.declared.ChunkSize.{ChunkSize}
 use Rattle.chunks.specs.Chunk.{chunk, sizeOf}
-use Rattle.agreement.specs.Promises.{HeadPromise, ChunkPromise}
-use Rattle.headreader.specs.Numbers.{settingsOf, kindOf, positionOf, pieceOf, pieceBit, numberBit, placed, requestNumbers, responseNumbers, blockNumbers, sizeKind, sizeNumbers}
+use Rattle.agreement.specs.Promises.{ChunkPromise}
+use Rattle.headreader.specs.Numbers.{settingsOf, positionOf, pieceOf, pieceBit, numberBit, placed, requestNumbers, responseNumbers, blockNumbers, sizeKind, sizeNumbers}
 use Rattle.headreader.specs.Exports.{ExportBy, RequestExport, SizeExport}
 
 pub unknown-piece : {k : KnownPiece} → k ≡ pieces.NotYet → record { offset = 0; length = 0 } ≡ pieceOf k
@@ -60,15 +55,13 @@ bit-clear bits = bit-test bits 0
 pub bit-set : (bits : ℕ) → (bits / 128) % 2 ≡ 1 → settingsOf bits ≡ ascii-targets
 bit-set bits = bit-test bits 1
 
+-- the same settings choose the same rules
+pub exported-by : {a b : Settings} {s old : List ℕ} {r : ℕ} {out new : List ℕ} → a ≡ b → ExportBy (rulesOf a) s old r out new → ExportBy (rulesOf b) s old r out new
+exported-by {s = s} {old = old} {r = r} {out = out} {new = new} e x = subst (λ y. ExportBy (rulesOf y) s old r out new) e x
+
 -- with the bit clear, whatever the other bits are, the function for C tells the answer under the default, as it did before there were settings
 pub request-clear : (bits : ℕ) {s old : List ℕ} {r : ℕ} {out new : List ℕ} → (bits / 128) % 2 ≡ 0 → RequestExport s old r out new bits → ExportBy default s old r out new
-request-clear bits {s} {old} {r} {out} {new} e x = subst (λ y. ExportBy (rulesOf y) s old r out new) (bit-clear bits e) x
-
--- a request, read with the settings that the bits ask for
-pub request-exported : (bits : ℕ) {s old new out : List ℕ} {settings : Settings} {r : ℕ} {head : RequestHead} → settings ≡ settingsOf bits → Told (request (rulesOf settings) (length old / 4) s) (head .end) (head .line) (head .count) old new × HeadPromise (request-head (rulesOf settings)) RequestSays (RequestInside (rulesOf settings)) s old (head .end) (head .line) (head .count) new → r ≡ kindOf (head .end) → out ≡ requestNumbers head → RequestExport s old r out new bits
-request-exported bits {s} {old} {new} {head = head} e t k o =
-    let q = subst (λ y. Told (request (rulesOf y) (length old / 4) s) (head .end) (head .line) (head .count) old new × HeadPromise (request-head (rulesOf y)) RequestSays (RequestInside (rulesOf y)) s old (head .end) (head .line) (head .count) new) e t in
-    record { answer = head; told = q .0; promise = q .1; kind = k; numbers = o }
+request-clear bits e x = exported-by (bit-clear bits e) x
 
 -- a chunk size line: z is what the arm took it for
 pub size-told : {s : List ℕ} {size z : ChunkSize} {r : ℕ} {out : List ℕ} → sizeOf size ≡ chunk default s → ChunkPromise s size → size ≡ z → r ≡ sizeKind z → out ≡ sizeNumbers z → SizeExport s r out

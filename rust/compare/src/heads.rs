@@ -61,6 +61,16 @@ pub fn shapes() -> Vec<Shape> {
     shapes
 }
 
+/// Each shape as often as is said of it, with a seed for each.
+pub fn jobs(seed: u64, how_many: impl Fn(&Shape) -> usize) -> Vec<(Shape, u64)> {
+    let mut seeds = Random::new(seed);
+    let mut jobs = Vec::new();
+    for shape in shapes() {
+        jobs.extend((0..how_many(&shape)).map(|_| (shape, seeds.number())));
+    }
+    jobs
+}
+
 const METHODS: &[&[u8]] = &[
     b"GET",
     b"POST",

@@ -2,7 +2,7 @@
 
 use answers::Call;
 use compare::damage::{damaged, places, slot_counts};
-use compare::heads::{make, shapes, Head, Shape};
+use compare::heads::{jobs, make, Head, Shape};
 use compare::starts::{starts, telling_bytes, Start};
 use compare::strings::{self, how_many, strings};
 use compare::types::TypesComparer;
@@ -173,22 +173,18 @@ fn damage_at(place: usize, head: &Head, random: &mut Random, comparer: &mut Comp
     }
 }
 
-/// The shapes of requests as often as each is made, with a seed for each.
-fn jobs() -> Vec<(Shape, u64)> {
-    let mut seeds = Random::new(SEED);
-    let mut jobs = Vec::new();
-    let requests = shapes()
-        .into_iter()
-        .filter(|shape| shape.call == Call::Request);
-    for shape in requests {
-        jobs.extend((0..HEADS).map(|_| (shape, seeds.number())));
+/// How many heads of a shape are made: none but requests have a target.
+fn heads_of(shape: &Shape) -> usize {
+    if shape.call == Call::Request {
+        HEADS
+    } else {
+        0
     }
-    jobs
 }
 
 #[test]
 fn damaged_heads() {
-    let jobs = jobs();
+    let jobs = jobs(SEED, heads_of);
     let tally = on_all_cores(&jobs, |(shape, seed)| {
         let mut comparer = Comparer::of_headreader();
         let mut random = Random::new(*seed);

@@ -1,7 +1,7 @@
 //! Damaged copies of realistic heads: changed, dropped, doubled and swapped bytes, and cuts.
 
 use compare::damage::{damaged, places, slot_counts};
-use compare::heads::{make, shapes, Head, Shape};
+use compare::heads::{jobs, make, Head, Shape};
 use compare::{on_all_cores, Case, Comparer, Random, CALLS};
 
 const SEED: u64 = 9112;
@@ -41,19 +41,9 @@ fn how_many(shape: &Shape) -> usize {
     }
 }
 
-/// Each shape as often as it is made, with a seed for each.
-fn jobs() -> Vec<(Shape, u64)> {
-    let mut seeds = Random::new(SEED);
-    let mut jobs = Vec::new();
-    for shape in shapes() {
-        jobs.extend((0..how_many(&shape)).map(|_| (shape, seeds.number())));
-    }
-    jobs
-}
-
 #[test]
 fn damaged_heads() {
-    let jobs = jobs();
+    let jobs = jobs(SEED, how_many);
     let tally = on_all_cores(&jobs, |(shape, seed)| {
         let mut comparer = Comparer::of_headreader();
         let mut random = Random::new(*seed);

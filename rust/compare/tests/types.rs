@@ -3,7 +3,7 @@
 
 use answers::Call;
 use compare::damage::{damaged, places, slot_counts};
-use compare::heads::{make, shapes, Head, Shape, LONGEST};
+use compare::heads::{jobs, make, Head, Shape, LONGEST};
 use compare::starts::{starts, telling_bytes, Start};
 use compare::strings::{self, strings};
 use compare::types::{our_texts, their_texts, TypesComparer};
@@ -80,19 +80,18 @@ fn damage_at(place: usize, head: &Head, random: &mut Random, comparer: &mut Type
     compare(head.call, &slots, &head.bytes[..place], comparer);
 }
 
-/// Each shape as often as it is made, with a seed for each; the longest would take too long.
-fn jobs() -> Vec<(Shape, u64)> {
-    let mut seeds = Random::new(SEED);
-    let mut jobs = Vec::new();
-    for shape in shapes().into_iter().filter(|shape| shape.length < LONGEST) {
-        jobs.extend((0..HEADS).map(|_| (shape, seeds.number())));
+/// How many heads of a shape are made: the longest would take too long.
+fn how_many(shape: &Shape) -> usize {
+    if shape.length < LONGEST {
+        HEADS
+    } else {
+        0
     }
-    jobs
 }
 
 #[test]
 fn damaged_heads() {
-    let jobs = jobs();
+    let jobs = jobs(SEED, how_many);
     let tally = on_all_cores(&jobs, |(shape, seed)| {
         let mut comparer = TypesComparer::of_headreader();
         let mut random = Random::new(*seed);
