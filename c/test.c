@@ -53,10 +53,10 @@ static const struct expected CASES[] = {
     {REQUEST, "GET / HTTP/1.0\nA: b\n", HR_INCOMPLETE, {0, 1, REQUEST_LINE, 0, 3, 4, 1, 0}, {15, 1, 18, 1}},
     {REQUEST, "GET /", HR_INCOMPLETE, {0, 0, HR_KNOWS_METHOD, 0, 3, 0, 0, 0}, {0}},
     {REQUEST, " ", HR_TOKEN, {0}, {0}},
-    {REQUEST, "GET / HTTP/2", HR_VERSION, {0, 0, HR_KNOWS_METHOD | HR_KNOWS_TARGET, 0, 3, 4, 1, 0}, {0}},
-    {REQUEST, "GET / HTTP/1.1\r\n\rA", HR_NEW_LINE, {0, 0, REQUEST_LINE, 0, 3, 4, 1, 1}, {0}},
-    {REQUEST, "GET /\177", HR_TOKEN, {0, 0, HR_KNOWS_METHOD, 0, 3, 0, 0, 0}, {0}},
-    {REQUEST, "GE\303\251 /", HR_TOKEN, {0}, {0}},
+    {REQUEST, "GET / HTTP/2", HR_VERSION, {11, 0, HR_KNOWS_METHOD | HR_KNOWS_TARGET, 0, 3, 4, 1, 0}, {0}},
+    {REQUEST, "GET / HTTP/1.1\r\n\rA", HR_NEW_LINE, {17, 0, REQUEST_LINE, 0, 3, 4, 1, 1}, {0}},
+    {REQUEST, "GET /\177", HR_TOKEN, {5, 0, HR_KNOWS_METHOD, 0, 3, 0, 0, 0}, {0}},
+    {REQUEST, "GE\303\251 /", HR_TOKEN, {2}, {0}},
     {REQUEST, "GET /!~ HTTP/1.1\nA: \303\251\n\n", HR_COMPLETE, {24, 1, REQUEST_LINE, 0, 3, 4, 3, 1}, {17, 1, 20, 2}},
     {RESPONSE, "HTTP/1.1 200 OK\r\nA: b\r\n\r\n", HR_COMPLETE, {25, 1, STATUS_LINE, 1, 200, 13, 2, 0}, {17, 1, 20, 1}},
     {REQUEST, SEVENTY " /" SEVENTY " HTTP/1.1\r\n" SEVENTY ": " SEVENTY "\r\n\r\n", HR_COMPLETE,
@@ -66,11 +66,11 @@ static const struct expected CASES[] = {
     {RESPONSE, "HTTP/1.0 204\r\n\r\n", HR_COMPLETE, {16, 0, STATUS_LINE, 0, 204, 0, 0, 0}, {0}},
     {RESPONSE, "HTTP/1.1 204", HR_INCOMPLETE, {0, 0, HR_KNOWS_VERSION | HR_KNOWS_CODE, 1, 204, 0, 0, 0}, {0}},
     {RESPONSE, "HTTP/1.1 200 caf\303\251\n\n", HR_COMPLETE, {20, 0, STATUS_LINE, 1, 200, 0, 0, 0}, {0}},
-    {RESPONSE, "HTTP/1.1 x", HR_STATUS, {0, 0, HR_KNOWS_VERSION, 1, 0, 0, 0, 0}, {0}},
+    {RESPONSE, "HTTP/1.1 x", HR_STATUS, {9, 0, HR_KNOWS_VERSION, 1, 0, 0, 0, 0}, {0}},
     {HEADERS, "A: b\r\nC: d\r\n\r\n", HR_COMPLETE, {14, 2, 0, 0, 0, 0, 0, 0}, {0, 1, 3, 1, 6, 1, 9, 1}},
-    {HEADERS, "A b\n", HR_HEADER_NAME, {0}, {0}},
-    {HEADERS, "A: b\nC:\001", HR_HEADER_VALUE, {0, 1, 0, 0, 0, 0, 0, 0}, {0, 1, 3, 1}},
-    {HEADERS, "A:b\nC:d\nE:f\nG:h\n\n", HR_TOO_MANY_HEADERS, {0, 3, 0, 0, 0, 0, 0, 0}, {0, 1, 2, 1, 4, 1, 6, 1, 8, 1, 10, 1}},
+    {HEADERS, "A b\n", HR_HEADER_NAME, {1}, {0}},
+    {HEADERS, "A: b\nC:\001", HR_HEADER_VALUE, {7, 1, 0, 0, 0, 0, 0, 0}, {0, 1, 3, 1}},
+    {HEADERS, "A:b\nC:d\nE:f\nG:h\n\n", HR_TOO_MANY_HEADERS, {12, 3, 0, 0, 0, 0, 0, 0}, {0, 1, 2, 1, 4, 1, 6, 1, 8, 1, 10, 1}},
     {HEADERS, "", HR_INCOMPLETE, {0}, {0}},
     {CHUNK_SIZE, "3086d;x\r\n", HR_COMPLETE, {9, 198765, 0, 0, 0, 0, 0, 0}, {0}},
     {CHUNK_SIZE, "ffffffffffffffff\r\n", HR_COMPLETE, {18, UINT64_MAX, 0, 0, 0, 0, 0, 0}, {0}},
@@ -85,25 +85,101 @@ static const struct expected BEYOND_ASCII[] = {
     {REQUEST, "GET /caf\303\251 HTTP/1.1\r\nA: b\r\n\r\n", HR_COMPLETE, {29, 1, REQUEST_LINE, 0, 3, 4, 6, 1}, {21, 1, 24, 1}},
     {REQUEST, "\r\n\nPUT \360\237\230\200 HTTP/1.0\n", HR_INCOMPLETE, {0, 0, REQUEST_LINE, 3, 3, 7, 4, 0}, {0}},
     {REQUEST, "M-SEARCH /" SEVENTY "\303\251 HTTP/1.1\n\n", HR_COMPLETE, {93, 0, REQUEST_LINE, 0, 8, 9, 73, 1}, {0}},
-    {REQUEST, "GET /\377 HTTP/1.1\r\n\r\n", HR_TOKEN, {0, 0, HR_KNOWS_METHOD, 0, 3, 0, 0, 0}, {0}},
-    {REQUEST, "GET /\303\t", HR_TOKEN, {0, 0, HR_KNOWS_METHOD, 0, 3, 0, 0, 0}, {0}},
+    {REQUEST, "GET /\377 HTTP/1.1\r\n\r\n", HR_TOKEN, {6, 0, HR_KNOWS_METHOD, 0, 3, 0, 0, 0}, {0}},
+    {REQUEST, "GET /\303\t", HR_TOKEN, {6, 0, HR_KNOWS_METHOD, 0, 3, 0, 0, 0}, {0}},
     {REQUEST, "POST \200", HR_INCOMPLETE, {0, 0, HR_KNOWS_METHOD, 0, 4, 0, 0, 0}, {0}},
 };
 
 #define BEYOND_ASCII_COUNT (sizeof BEYOND_ASCII / sizeof BEYOND_ASCII[0])
 
+/* An input that is an error from its last byte on, where that lies, and with how many slots. */
+struct error {
+    enum call call;
+    const char *input;
+    uint32_t status;
+    size_t position, slots;
+};
+
+/* Each of the errors, at several places. No target here is beyond ASCII. */
+static const struct error ERRORS[] = {
+    {REQUEST, " ", HR_TOKEN, 0, 0},
+    {REQUEST, "\r\n\nGE\"", HR_TOKEN, 5, 0},
+    {REQUEST, "GET  ", HR_TOKEN, 4, 0},
+    {REQUEST, "GET /\r", HR_TOKEN, 5, 0},
+    {REQUEST, "GET /" SEVENTY "\177", HR_TOKEN, 75, 0},
+    {REQUEST, "GET / HTTX", HR_VERSION, 9, 0},
+    {REQUEST, "GET / HTTP/2", HR_VERSION, 11, 0},
+    {REQUEST, "GET / HTTP/1.2", HR_VERSION, 13, 0},
+    {RESPONSE, "A", HR_VERSION, 0, 0},
+    {RESPONSE, "HTTP/1.1\r", HR_VERSION, 8, 0},
+    {REQUEST, "\n\r\r", HR_NEW_LINE, 2, 0},
+    {REQUEST, "GET / HTTP/1.1 ", HR_NEW_LINE, 14, 0},
+    {REQUEST, "GET / HTTP/1.1\rA", HR_NEW_LINE, 15, 0},
+    {REQUEST, "GET / HTTP/1.1\r\nA: b\r\n\rC", HR_NEW_LINE, 23, 1},
+    {HEADERS, "\rA", HR_NEW_LINE, 1, 0},
+    {RESPONSE, "HTTP/1.1  ", HR_STATUS, 9, 0},
+    {RESPONSE, "HTTP/1.1 200\t", HR_STATUS, 12, 0},
+    {RESPONSE, "HTTP/1.1 200\rA", HR_STATUS, 13, 0},
+    {RESPONSE, "HTTP/1.1 200 " SEVENTY "\177", HR_STATUS, 83, 0},
+    {RESPONSE, "HTTP/1.1 200 OK\r\r", HR_STATUS, 16, 0},
+    {REQUEST, "GET / HTTP/1.1\n:", HR_HEADER_NAME, 15, 0},
+    {RESPONSE, "HTTP/1.1 200 OK\r\nA: b\r\n ", HR_HEADER_NAME, 23, 1},
+    {HEADERS, "A ", HR_HEADER_NAME, 1, 0},
+    {HEADERS, "A: b\nC: d\nE\n", HR_HEADER_NAME, 11, 2},
+    {HEADERS, SEVENTY "\r", HR_HEADER_NAME, 70, 0},
+    {REQUEST, "GET / HTTP/1.1\nA:\001", HR_HEADER_VALUE, 17, 0},
+    {RESPONSE, "HTTP/1.1 200\nA: b\rC", HR_HEADER_VALUE, 18, 0},
+    {HEADERS, "A:\rB", HR_HEADER_VALUE, 3, 0},
+    {HEADERS, "A: b\nC:" SEVENTY "\177", HR_HEADER_VALUE, 77, 1},
+    {CHUNK_SIZE, "g", HR_CHUNK_SIZE, 0, 0},
+    {CHUNK_SIZE, "1\n", HR_CHUNK_SIZE, 1, 0},
+    {CHUNK_SIZE, "1\rA", HR_CHUNK_SIZE, 2, 0},
+    {CHUNK_SIZE, "1 2", HR_CHUNK_SIZE, 2, 0},
+    {CHUNK_SIZE, "1;" SEVENTY "\r\r", HR_CHUNK_SIZE, 73, 0},
+    {CHUNK_SIZE, "0123456789abcdef0", HR_CHUNK_SIZE, 16, 0},
+    {REQUEST, "GET / HTTP/1.1\r\nA: b\r\n", HR_TOO_MANY_HEADERS, 16, 0},
+    {REQUEST, "GET / HTTP/1.1\r\nA: b\r\nCC:  d\n", HR_TOO_MANY_HEADERS, 22, 1},
+    {REQUEST, "GET / HTTP/1.1\r\nA: b\r\nCC:  d\nE:\r\n", HR_TOO_MANY_HEADERS, 29, 2},
+    {RESPONSE, "HTTP/1.1 200\nA:\n", HR_TOO_MANY_HEADERS, 13, 0},
+    {RESPONSE, "HTTP/1.1 200\nA:\nB:\n", HR_TOO_MANY_HEADERS, 16, 1},
+    {RESPONSE, "HTTP/1.1 200\nA:\nB:\nC:\n", HR_TOO_MANY_HEADERS, 19, 2},
+    {HEADERS, SEVENTY ":" SEVENTY "\n", HR_TOO_MANY_HEADERS, 0, 0},
+    {HEADERS, "A: \r\nB: " SEVENTY " \t\r\n", HR_TOO_MANY_HEADERS, 5, 1},
+    {HEADERS, "A:b\nC:d\nE:f\n", HR_TOO_MANY_HEADERS, 8, 2},
+};
+
+#define ERROR_COUNT (sizeof ERRORS / sizeof ERRORS[0])
+
+/* A target that is no UTF-8 is refused at the space behind it, and at its first byte beyond ASCII where it must be ASCII. */
+static const struct {
+    struct error usual, ascii;
+} NO_UTF8[] = {
+    {{REQUEST, "GET /\377/a ", HR_TOKEN, 8, 0}, {REQUEST, "GET /\377", HR_TOKEN, 5, 0}},
+    {{REQUEST, "GET /caf\303 ", HR_TOKEN, 9, 0}, {REQUEST, "GET /caf\303", HR_TOKEN, 8, 0}},
+    {{REQUEST, "PUT \200 ", HR_TOKEN, 5, 0}, {REQUEST, "PUT \200", HR_TOKEN, 4, 0}},
+};
+
+#define NO_UTF8_COUNT (sizeof NO_UTF8 / sizeof NO_UTF8[0])
+
+/* What stands behind an error has no say in it. */
+static const char *const BEHIND[] = {"", "a", "\r\n\r\n", "\001", " HTTP/1.1\r\nA: b\r\n\r\n"};
+
+#define BEHIND_COUNT (sizeof BEHIND / sizeof BEHIND[0])
+
 static int passed, failed;
 
-static void count(bool good, const char *what, const struct expected *expected) {
+static void count_input(bool good, const char *what, const char *input) {
     if (good) {
         passed++;
         return;
     }
     failed++;
-    printf("wrong: %s, on \"%s\"\n", what, expected->input);
+    printf("wrong: %s, on \"%s\"\n", what, input);
 }
 
-static struct answer ask(enum call call, const uint8_t *buf, size_t len, uint32_t settings) {
+static void count(bool good, const char *what, const struct expected *expected) { count_input(good, what, expected->input); }
+
+static struct answer ask_with(enum call call, const uint8_t *buf, size_t len, size_t room, uint32_t settings) {
     struct answer answer;
     for (size_t i = 0; i < sizeof answer.out / sizeof answer.out[0]; i++)
         answer.out[i] = UNTOUCHED;
@@ -113,18 +189,22 @@ static struct answer ask(enum call call, const uint8_t *buf, size_t len, uint32_
     uint64_t *slots = answer.slots + 1;
     switch (call) {
     case REQUEST:
-        answer.status = hr_request(buf, len, slots, NUMBERS, out, settings);
+        answer.status = hr_request(buf, len, slots, room, out, settings);
         break;
     case RESPONSE:
-        answer.status = hr_response(buf, len, slots, NUMBERS, out, settings);
+        answer.status = hr_response(buf, len, slots, room, out, settings);
         break;
     case HEADERS:
-        answer.status = hr_headers(buf, len, slots, NUMBERS, out);
+        answer.status = hr_headers(buf, len, slots, room, out);
         break;
     default:
         answer.status = hr_chunk_size(buf, len, out);
     }
     return answer;
+}
+
+static struct answer ask(enum call call, const uint8_t *buf, size_t len, uint32_t settings) {
+    return ask_with(call, buf, len, NUMBERS, settings);
 }
 
 /* Whether the numbers are those, with all that must be untouched as it was. */
@@ -139,6 +219,9 @@ static bool is(const struct answer *answer, const struct expected *expected) {
            answer->out[0] == UNTOUCHED && answer->out[9] == UNTOUCHED && answer->slots[0] == UNTOUCHED &&
            answer->slots[1 + NUMBERS] == UNTOUCHED;
 }
+
+/* A number of out, behind the one that stands before them. */
+static uint64_t told(const struct answer *answer, size_t number) { return answer->out[1 + number]; }
 
 static bool same(const struct answer *one, const struct answer *other) {
     return one->status == other->status && memcmp(one->out, other->out, sizeof one->out) == 0 &&
@@ -206,10 +289,47 @@ static void test_rows_before_a_wall(size_t row, uint8_t *wall) {
         for (unsigned byte = 0; byte < 256; byte++) {
             wall[-1] = (uint8_t)byte;
             struct answer answer = ask(wrong->call, buf, start + length + 1, ROWS[row].settings);
-            good = good && answer.status == (ROWS[row].goes_on(byte) ? HR_INCOMPLETE : wrong->status);
+            bool goes_on = ROWS[row].goes_on(byte);
+            good = good && answer.status == (goes_on ? HR_INCOMPLETE : wrong->status);
+            good = good && told(&answer, 0) == (goes_on ? 0 : start + length);
         }
         count(good, "a row before a wall", wrong);
     }
+}
+
+/* Every start of the input, and more behind it: incomplete until the input is whole, then the error, always at the same position. */
+static void test_position(const struct error *error, const char *behind, uint32_t settings) {
+    char input[256];
+    size_t len = (size_t)snprintf(input, sizeof input, "%s%s", error->input, behind);
+    bool good = len < sizeof input;
+    for (size_t part = 0; good && part <= len; part++) {
+        bool decided = part >= strlen(error->input);
+        struct answer answer = ask_with(error->call, (const uint8_t *)input, part, error->slots * 4, settings);
+        good = answer.status == (decided ? error->status : HR_INCOMPLETE) && told(&answer, 0) == (decided ? error->position : 0);
+    }
+    count_input(good, "the position of an error", error->input);
+}
+
+/* The bytes before a header without a slot have filled the slots, and one slot more holds that header. */
+static void test_slots_before(const struct error *error, uint32_t settings) {
+    const uint8_t *buf = (const uint8_t *)error->input;
+    struct answer before = ask_with(error->call, buf, error->position, error->slots * 4, settings);
+    struct answer roomier = ask_with(error->call, buf, strlen(error->input), (error->slots + 1) * 4, settings);
+    bool good = before.status == HR_INCOMPLETE && told(&before, 1) == error->slots && roomier.status == HR_INCOMPLETE &&
+                told(&roomier, 1) == error->slots + 1 && roomier.slots[1 + error->slots * 4] == error->position;
+    count_input(good, "the slots before an error", error->input);
+}
+
+static void test_errors(uint32_t settings) {
+    for (size_t i = 0; i < ERROR_COUNT; i++) {
+        for (size_t j = 0; j < BEHIND_COUNT; j++)
+            test_position(&ERRORS[i], BEHIND[j], settings);
+        if (ERRORS[i].status == HR_TOO_MANY_HEADERS)
+            test_slots_before(&ERRORS[i], settings);
+    }
+    for (size_t i = 0; i < NO_UTF8_COUNT; i++)
+        for (size_t j = 0; j < BEHIND_COUNT; j++)
+            test_position(settings & HR_ASCII_TARGETS ? &NO_UTF8[i].ascii : &NO_UTF8[i].usual, BEHIND[j], settings);
 }
 
 /* One header has room in seven numbers, and none in three: the second is one too many, and what is left over stays as it was. */
@@ -220,7 +340,7 @@ static void test_few_slots(void) {
         for (size_t i = 0; i < 8; i++)
             slots[i] = UNTOUCHED;
         uint32_t status = hr_headers((const uint8_t *)TWO.input, strlen(TWO.input), slots, room, out);
-        bool good = status == TWO.status && out[1] == room / 4;
+        bool good = status == TWO.status && out[0] == (room < 4 ? 0 : 4) && out[1] == room / 4;
         for (size_t i = 0; i < 8; i++)
             good = good && slots[i] == (i < room / 4 * 4 ? TWO.slots[i] : UNTOUCHED);
         count(good, "few slots", &TWO);
@@ -237,9 +357,9 @@ static size_t first_beyond_ascii(const char *input) {
 /* Up to the byte that is not ASCII nothing changes; from there on the target is refused, whatever follows. */
 static void test_refused_at_once(const struct expected *beyond) {
     const uint8_t *buf = (const uint8_t *)beyond->input;
-    struct expected refused = {
-        REQUEST, beyond->input, HR_TOKEN, {0, 0, HR_KNOWS_METHOD, beyond->out[3], beyond->out[4], 0, 0, 0}, {0}};
     size_t first = first_beyond_ascii(beyond->input);
+    struct expected refused = {
+        REQUEST, beyond->input, HR_TOKEN, {first, 0, HR_KNOWS_METHOD, beyond->out[3], beyond->out[4], 0, 0, 0}, {0}};
     for (size_t part = 0; part <= strlen(beyond->input); part++) {
         struct answer off = ask(REQUEST, buf, part, OTHER_BITS);
         struct answer on = ask(REQUEST, buf, part, HR_ASCII_TARGETS | OTHER_BITS);
@@ -250,7 +370,7 @@ static void test_refused_at_once(const struct expected *beyond) {
 /* Each byte alone as the last of a target: a space ends it, and those that may stand in it leave it open. */
 static void test_each_byte_of_a_target(void) {
     static const struct expected OPEN = {REQUEST, "GET /", HR_INCOMPLETE, {0, 0, HR_KNOWS_METHOD, 0, 3, 0, 0, 0}, {0}};
-    static const struct expected WRONG = {REQUEST, "GET /", HR_TOKEN, {0, 0, HR_KNOWS_METHOD, 0, 3, 0, 0, 0}, {0}};
+    static const struct expected WRONG = {REQUEST, "GET /", HR_TOKEN, {5, 0, HR_KNOWS_METHOD, 0, 3, 0, 0, 0}, {0}};
     static const struct expected ENDED = {
         REQUEST, "GET / ", HR_INCOMPLETE, {0, 0, HR_KNOWS_METHOD | HR_KNOWS_TARGET, 0, 3, 4, 1, 0}, {0}};
     for (unsigned byte = 0; byte < 256; byte++) {
@@ -285,6 +405,8 @@ int main(void) {
     }
     for (size_t i = 0; i < ROW_COUNT; i++)
         test_rows_before_a_wall(i, pages + page);
+    for (size_t i = 0; i < SETTING_COUNT; i++)
+        test_errors(SETTINGS[i]);
     test_each_byte_of_a_target();
     test_few_slots();
     printf("%d passed, %d failed\n", passed, failed);

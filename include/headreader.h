@@ -6,6 +6,13 @@
  * out[1] slots, four numbers each: where a header's name is, the name's length, where its value is, the value's length. All other
  * slots are left as they were. Every place that is told lies within buf.
  *
+ * out[0] is the position behind what was read if that is complete, and 0 if it is incomplete. On an error it is the position of the
+ * byte that decided it, and less than len: on the bytes before it, with as many slots and the same settings, the call answers
+ * HR_INCOMPLETE, and with that byte this error, whatever follows. HR_TOO_MANY_HEADERS alone is not decided by one byte: its position is
+ * that of the first byte of the header that had no slot, where its name begins. On the bytes before it the call answers HR_INCOMPLETE
+ * with a header in every slot, and a whole header begins at it. So it is the number returned that tells whether a head is complete, and
+ * not out[0].
+ *
  * No pointer may be null, not even where its length is 0: the toolchain promises nothing of a null pointer. slots and out are
  * aligned as uint64_t is, and nothing that is written may overlap anything else that is passed.
  */
@@ -19,7 +26,7 @@
 extern "C" {
 #endif
 
-/* What a function returns. */
+/* What a function returns: complete, incomplete, or an error. */
 #define HR_COMPLETE 0u
 #define HR_INCOMPLETE 1u
 #define HR_HEADER_NAME 2u
@@ -47,8 +54,8 @@ extern "C" {
 #define HR_ASCII_TARGETS 128u
 
 /*
- * A request. out: 0 the position behind the head, and 0 where it is not complete; 1 how many headers were given; 2 what is known;
- * 3, 4 the method's offset and length; 5, 6 the target's; 7 the minor version. What is not known is 0. slots_len counts numbers.
+ * A request. out: 0 the position behind the head, or of an error; 1 how many headers were given; 2 what is known; 3, 4 the method's
+ * offset and length; 5, 6 the target's; 7 the minor version. What is not known is 0. slots_len counts numbers.
  * settings is 0, or HR_ASCII_TARGETS: httparse's own settings come one by one, each with its bit.
  */
 uint32_t hr_request(const uint8_t *buf, size_t len, uint64_t *slots, size_t slots_len, uint64_t out[8], uint32_t settings);
@@ -62,7 +69,7 @@ uint32_t hr_response(const uint8_t *buf, size_t len, uint64_t *slots, size_t slo
 /* Headers alone, up to the empty line. out: 0, 1 as above; the others are 0. */
 uint32_t hr_headers(const uint8_t *buf, size_t len, uint64_t *slots, size_t slots_len, uint64_t out[8]);
 
-/* The line before a chunk. out: 0 the position behind it; 1 the size; the others are 0. */
+/* The line before a chunk. out: 0 the position behind it, or of an error; 1 the size; the others are 0. */
 uint32_t hr_chunk_size(const uint8_t *buf, size_t len, uint64_t out[8]);
 
 #ifdef __cplusplus

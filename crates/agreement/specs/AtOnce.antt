@@ -1,6 +1,6 @@
 -- Where targets are plain ASCII, a byte that is not is refused at once, whatever follows it, and the method is known.
 -- Assumes nothing.
-use Prim.Native.Nat.{ℕ, _+_}
+use Prim.Native.Nat.{ℕ, suc, _+_}
 use native.Mathlib.Omega.{arith}
 use mathlib.Core.Path.{_≡_, refl, sym, ap, _∙_}
 use mathlib.Core.List.{List, [], _∷_, _++_, append-assoc}
@@ -21,7 +21,7 @@ use Rattle.rules.specs.Rules.{Rules}
 use Rattle.grammar.specs.Rows.{Many, none, more, some}
 use Rattle.grammar.specs.Message.{empty-lines, method, space}
 use Rattle.parts.specs.declared.Error.the-variants.{Token}
-use Rattle.parts.specs.Answers.{piece}
+use Rattle.parts.specs.Answers.{piece, fault}
 use Rattle.parts.specs.EmptyLines.{start, emptyLines}
 use Rattle.words.specs.Word.{wordStep, word}
 use Rattle.words.specs.Word as words
@@ -37,17 +37,17 @@ use Rattle.agreement.specs.Rows.{many-as, in-token}
 use Rattle.agreement.specs.Request.{method-stops}
 
 module _ (class : ℕ → Bool) (b : ℕ) (outside : class b ≡ false) (no-space : eqb b 32 ≡ false) where
-  inside-refused : (o : ℕ) (f : Utf8) {t : List ℕ} → Many (In class) t → (p : ℕ) (u : List ℕ) → (q : ℕ) × (run (targetStep class) (inside o f) p (t ++ (b ∷ u)) ≡ refused Token q)
-  inside-refused o f none p u = (p, rw (outside, no-space))
-  inside-refused o f (more {b = c} h k) p u = rw h (inside-refused o (feed f p c) k (p + 1) u)
+  inside-refused : (o : ℕ) (f : Utf8) {t : List ℕ} → Many (In class) t → (p : ℕ) (u : List ℕ) → run (targetStep class) (inside o f) p (t ++ (b ∷ u)) ≡ refused (fault Token (p + length t)) (p + length t)
+  inside-refused o f none p u = let i : p + 0 ≡ p = omega arith in rw (outside, no-space, i)
+  inside-refused o f {t} (more {b = c} {w = w} h k) p u = let i : p + suc (length w) ≡ p + 1 + length w = omega arith in rw (h, i) (inside-refused o (feed f p c) k (p + 1) u)
 
-  target-refused : {t : List ℕ} → Many (In class) t → (p : ℕ) (u : List ℕ) → (q : ℕ) × (run (targetStep class) no-byte p (t ++ (b ∷ u)) ≡ refused Token q)
-  target-refused none p u = (p, rw outside)
-  target-refused (more {b = c} h k) p u = rw h (inside-refused p (feed (wants []) p c) k (p + 1) u)
+  target-refused : {t : List ℕ} → Many (In class) t → (p : ℕ) (u : List ℕ) → run (targetStep class) no-byte p (t ++ (b ∷ u)) ≡ refused (fault Token (p + length t)) (p + length t)
+  target-refused none p u = let i : p + 0 ≡ p = omega arith in rw (outside, i)
+  target-refused {t} (more {b = c} {w = w} h k) p u = let i : p + suc (length w) ≡ p + 1 + length w = omega arith in rw (h, i) (inside-refused p (feed (wants []) p c) k (p + 1) u)
 
 module _ {r : Rules} (ascii : r .any-target ≡ false) (n : ℕ) {e t : List ℕ} (u : List ℕ) {b : ℕ} where
   -- empty lines, a method, a space and the visible bytes t of a target, then the byte, and whatever follows
-  pub token-at-once : {m : List ℕ} → empty-lines r e → method m → Many VCHAR t → isVisible b ≡ false → (b ≡ 32 → ⊥) → request r n (e ++ ((m ++ space) ++ (t ++ (b ∷ u)))) ≡ bad (Token, (requests.withMethod requests.unread (piece (length e) (length e + length m)), []))
+  pub token-at-once : {m : List ℕ} → empty-lines r e → method m → Many VCHAR t → isVisible b ≡ false → (b ≡ 32 → ⊥) → request r n (e ++ ((m ++ space) ++ (t ++ (b ∷ u)))) ≡ bad (fault Token (length e + length (m ++ space) + length t), (requests.withMethod requests.unread (piece (length e) (length e + length m)), []))
   unfolding request
   token-at-once {m} empty (some {b = c} {w = m′} x k) visible outside no-space =
       let class : ℕ → Bool = targetByte (r .any-target) in
@@ -64,9 +64,9 @@ module _ {r : Rules} (ascii : r .any-target ≡ false) (n : ℕ) {e t : List ℕ
       ∙ ap (answer nothing) (exact-word isToken 32 Token space-no-token .complete i (m ++ space) rest (piece i (i + length m)) (record { v = m; kind = in-token (some x k); whole = refl; place = refl })) in
       let behind : drop j z ≡ rest = ap (drop j) (sym (append-assoc e (m ++ space) rest)) ∙ drop-at (e ++ (m ++ space)) rest j (length-append e (m ++ space)) in
       let kind : Many (In class) t = many-as (λ a h. rw ascii (visible-is-VCHAR a .1 h)) visible in
-      let wrong : target class z j ≡ bad Token =
-      ap (λ y. answer nothing (run (targetStep class) no-byte j y)) behind ∙ ap (answer nothing) (target-refused class b (rw ascii outside) (ne-eqb b 32 no-space) kind j u .1) in
-      let read : requests.requestLine r z 0 ≡ bad (Token, line) =
+      let wrong : target class z j ≡ bad (fault Token (j + length t)) =
+      ap (λ y. answer nothing (run (targetStep class) no-byte j y)) behind ∙ ap (answer nothing) (target-refused class b (rw ascii outside) (ne-eqb b 32 no-space) kind j u) in
+      let read : requests.requestLine r z 0 ≡ bad (fault Token (j + length t), line) =
       sym (requests.request-line-whole r z 0 refl) ∙ ap (λ a. chain requests.unread (λ _. requests.unread) a (requests.fromMethod r z)) lines
       ∙ ap (λ a. chain requests.unread (requests.withMethod requests.unread) a (requests.fromTarget r z)) named
       ∙ ap (λ a. chain line (requests.withTarget line) a (requests.fromVersion r z)) wrong in

@@ -7,12 +7,11 @@ use mathlib.Core.List.{List, [], _++_}
 use lib.ListN.{length, take}
 use Rattle.reader.specs.Tests.{never}
 use Rattle.reader.specs.Seq.{first}
-use Rattle.reader.specs.Answer.{got, short, bad, answered, bad-stays, lapwise}
+use Rattle.reader.specs.Answer.{got, short, bad, answered, answered-bad, bad-stays, lapwise}
 use Rattle.reader.specs.Branch.{fresh}
 use Rattle.rules.specs.Rules.{Rules, default}
 use Rattle.grammar.specs.Message.{header-block, request-line, request-head, status-line, response-head}
-use Rattle.parts.specs.declared.Error.{Error}
-use Rattle.parts.specs.declared.Error.the-variants.{TooManyHeaders}
+use Rattle.parts.specs.declared.Fault.{Fault}
 use Rattle.parts.specs.declared.Passed.{Passed}
 use Rattle.parts.specs.declared.Passed.the-variants.{At, More, Bad}
 use Rattle.parts.specs.EmptyLines.{start}
@@ -40,7 +39,8 @@ use Rattle.agreement.specs.Known.{RequestSays, StatusSays, RequestInside
 use Rattle.agreement.specs.Request.{request-derived, request-read}
 use Rattle.agreement.specs.Response.{response-derived, response-read}
 use Rattle.agreement.specs.Exactly.{Found, Exactly, exactly, Lies, given-over, head-lies}
-use Rattle.agreement.specs.Promises.{HeadPromise, block-alone, says-nothing, lies-nowhere}
+use Rattle.agreement.specs.Decided.{over-bad, head-fault, block-fault, fault-promise, request-takes, status-takes}
+use Rattle.agreement.specs.Promises.{HeadPromise, FaultAt, FaultPromise, block-alone, says-nothing, lies-nowhere}
 use Rattle.agreement.specs.Kept.{kept}
 
 module _ {r : Rules} (fixed : Fixed r) (n : ℕ) where
@@ -77,11 +77,6 @@ got-block (got x p) k hs q e = let u : _≡_ {A = Known (Unit {0})} (tt, x) (k, 
 got-block (short x) k hs q e = never cc
 got-block (bad x) k hs q e = never cc
 
-bad-block : (b : Blocks) (x : Error × Known (Unit {0})) → _≡_ {A = Heads (Unit {0})} (alone b) (bad x) → b ≡ bad (x .0, x .1 .1)
-bad-block (got y p) x e = never cc
-bad-block (short y) x e = never cc
-bad-block (bad y) x e = let u : _≡_ {A = Error × Known (Unit {0})} (y .0, (tt, y .1)) x = cc in ap (λ v. bad (v .0, v .1 .1)) u
-
 module _ (n : ℕ) where
   found-block : (z : List ℕ) (k : Unit {0}) (hs : List Header) (q : ℕ) → headersOf n z ≡ got (k, hs) q → Found block-alone says-nothing n z k hs q
   found-block z k hs q e =
@@ -108,10 +103,10 @@ module _ (n : ℕ) where
     too-many = λ w rest l fs h f.
         let F = block-over (w ++ rest) default n (at-start w rest) h [] (omega arith) (omega (arith, f)) in
         let j : n - 0 ≡ n = omega arith in
-        record { k = tt; hs = F .new; says = tt; holds = F .holds ∙ ap (λ y. take y fs) j; answers = ap alone (F .answers) };
+        (F .position, record { k = tt; hs = F .new; says = tt; holds = F .holds ∙ ap (λ y. take y fs) j; answers = ap alone (F .answers) });
     few = λ z. subst (λ y. length y ≤ n) (sym (given-over tt (block default n [] z 0))) (few-fields z default n [] 0 (omega arith));
-    full = λ z x e. block-full default n z (x .1) (bad-block (block default n [] z 0) (TooManyHeaders, x) e);
-    stays = λ s u x e. ap alone (bad-stays (lapwise (λ hs _. hs)) (blockStep default n) s u ([], fresh) 0 (bad-block (block default n [] s 0) x e));
+    full = λ z x e. let u = answered-bad (lapwise (λ hs _. hs)) _ (over-bad {K = Unit {0}} tt (block default n [] z 0) x e) in block-full default n z (x .0, x .1 .1) (u .0) (u .1) .full;
+    stays = λ s u x e. ap alone (bad-stays (lapwise (λ hs _. hs)) (blockStep default n) s u ([], fresh) 0 (over-bad {K = Unit {0}} tt (block default n [] s 0) x e));
   }
 
 headers-lie : (n : ℕ) → Lies lies-nowhere (headersOf n)
@@ -123,6 +118,23 @@ module _ {r : Rules} (fixed : Fixed r) {s old : List ℕ} {end : Passed} {count 
 
   pub response-promise : {line : StatusLine} → Told (response r (length old / 4) s) end line count old new → HeadPromise (response-head r) StatusSays StatusInside s old end line count new
   response-promise T = kept (response-exactly fixed (length old / 4)) (response-lies r (length old / 4)) T
+
+-- where each error of a reader lies
+module _ (r : Rules) (n : ℕ) where
+  pub request-at : (z : List ℕ) (x : Fault × Known RequestLine) → request r n z ≡ bad x → FaultAt r n (request r n) z (x .0)
+  unfolding request
+  request-at = head-fault r n (requests.requestLineStep r) requests.lineKnown (first start) (request-refuses r) (request-takes r)
+
+  pub response-at : (z : List ℕ) (x : Fault × Known StatusLine) → response r n z ≡ bad x → FaultAt r n (response r n) z (x .0)
+  unfolding response
+  response-at = head-fault r n (statuses.statusLineStep r) statuses.lineKnown (first start) (status-refuses r) (status-takes r)
+
+module _ (r : Rules) {s old : List ℕ} {end : Passed} {count : ℕ} {new : List ℕ} where
+  pub request-fault : {line : RequestLine} → Told (request r (length old / 4) s) end line count old new → FaultPromise r (length old / 4) (request r (length old / 4)) s end
+  request-fault T = fault-promise (request-at r (length old / 4)) T
+
+  pub response-fault : {line : StatusLine} → Told (response r (length old / 4) s) end line count old new → FaultPromise r (length old / 4) (response r (length old / 4)) s end
+  response-fault T = fault-promise (response-at r (length old / 4)) T
 
 tell-alone : (end : Passed) (hs : List Header) → tell end (tt, hs) ≡ alone (blocks.tell end hs)
 tell-alone (At q) hs = refl
@@ -140,3 +152,6 @@ alone-told {b} {r} {old} T =
 
 pub headers-promise : {s old : List ℕ} {r : Block} {new : List ℕ} → blocks.Told (block default (length old / 4) [] s 0) r old new → HeadPromise block-alone says-nothing lies-nowhere s old (r .end) tt (r .count) new
 headers-promise {s} {old} T = kept (headers-exactly (length old / 4)) (headers-lie (length old / 4)) (alone-told T)
+
+pub headers-fault : {s old : List ℕ} {r : Block} {new : List ℕ} → blocks.Told (block default (length old / 4) [] s 0) r old new → FaultPromise default (length old / 4) (headersOf (length old / 4)) s (r .end)
+headers-fault {s} {old} T = fault-promise (block-fault default (length old / 4)) (alone-told T)

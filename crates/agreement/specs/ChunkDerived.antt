@@ -82,9 +82,9 @@ semicolon-before {v} {p} {b} {bs} {n} {q} t E =
     record { x = semicolon ++ E .w; kind = extended none (E .kind); ends = subst (λ y. Ended v ((y ∷ E .w) ++ CRLF) p (b ∷ bs) n q) (eqb-true b 59 t) (one-before (E .ends)) }
 
 -- one step behind the digits, whatever the rest does
-behind-step : (v b : ℕ) (bs : List ℕ) (p n q : ℕ) → (run (chunkStep default) (blanks v) (p + 1) bs ≡ gave n q → Behind v (p + 1) bs n q) → after (behindStep v b) p (λ s. run (chunkStep default) s (p + 1) bs) ≡ gave n q → Behind v p (b ∷ bs) n q
+behind-step : (v b : ℕ) (bs : List ℕ) (p n q : ℕ) → (run (chunkStep default) (blanks v) (p + 1) bs ≡ gave n q → Behind v (p + 1) bs n q) → after (behindStep v p b) p (λ s. run (chunkStep default) s (p + 1) bs) ≡ gave n q → Behind v p (b ∷ bs) n q
 behind-step v b bs p n q ih =
-    let G : Move Chunk ℕ (Unit {0}) → Type 0 = λ u. after u p (λ s. run (chunkStep default) s (p + 1) bs) ≡ gave n q → Behind v p (b ∷ bs) n q in
+    let G : Move Chunk ℕ ℕ → Type 0 = λ u. after u p (λ s. run (chunkStep default) s (p + 1) bs) ≡ gave n q → Behind v p (b ∷ bs) n q in
     split G (isBlank b) (λ t e. let k = ih e in record { x = b ∷ k .x; kind = blank-before (blank-is-blank b .0 t) (k .kind); ends = one-before (k .ends) })
     (λ _. split G (eqb b 59) (λ t e. semicolon-before t (sound-extension v bs (p + 1) n q e))
     (λ _. split G (eqb b 13) (λ t e. record { x = []; kind = blank-only none; ends = behind-cr t (sound-cr v (p + 1) bs n q e) })
@@ -114,7 +114,7 @@ no-digits {v = v} l B = record { d = []; x = B .x; digits = subst (λ y. Onto v 
 sound-digits : (k v : ℕ) (xs : List ℕ) (p n q : ℕ) → k ≤ 16 → run (chunkStep default) (digits k v) p xs ≡ gave n q → Counted k v p xs n q
 sound-digits k v [] p n q l = λ e. never cc
 sound-digits k v (b ∷ bs) p n q l =
-    let G : Move Chunk ℕ (Unit {0}) → Type 0 = λ u. after u p (λ s. run (chunkStep default) s (p + 1) bs) ≡ gave n q → Counted k v p (b ∷ bs) n q in
+    let G : Move Chunk ℕ ℕ → Type 0 = λ u. after u p (λ s. run (chunkStep default) s (p + 1) bs) ≡ gave n q → Counted k v p (b ∷ bs) n q in
     let ih : k < 16 → run (chunkStep default) (digits (k + 1) (v * 16 + worth b)) (p + 1) bs ≡ gave n q → Counted (k + 1) (v * 16 + worth b) (p + 1) bs n q = λ m. sound-digits (k + 1) (v * 16 + worth b) bs (p + 1) n q (omega (arith, m)) in
     split G (isHexDigit b)
     (λ h. split G (ltb k 16) (λ t e. digit-before h (ih (ltb-true k 16 t) e)) (λ t e. never cc))

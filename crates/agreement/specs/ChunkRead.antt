@@ -25,7 +25,7 @@ use Rattle.agreement.specs.Loose.{NoCR, Loose, blank-only, extended, loo
 use Rattle.agreement.specs.ChunkDerived.{worth-is}
 
 -- what each kind of byte does to the machine
-abbrev pub from : Chunk → ℕ → List ℕ → Run Chunk ℕ (Unit {0})
+abbrev pub from : Chunk → ℕ → List ℕ → Run Chunk ℕ ℕ
 from s p xs = run (chunkStep default) s p xs
 
 over-digits : {w : List ℕ} {n : ℕ} → hexadecimal w n → (p : ℕ) (ys : List ℕ) → length w ≤ 16 → from (digits 0 0) p (w ++ ys) ≡ from (digits (length w) n) (p + length w) ys

@@ -7,7 +7,7 @@ use mathlib.Core.List.{List, [], _++_}
 use lib.ListN.{length, take, length-append}
 use Rattle.reader.specs.Machine.{Step, run, runAt}
 use Rattle.reader.specs.Seq.{first}
-use Rattle.reader.specs.Answer.{Answer, got, short, bad, answer, answered, bad-stays}
+use Rattle.reader.specs.Answer.{Answer, got, short, bad, answer, answered, answered-bad, bad-stays}
 use Rattle.reader.specs.Refusals.{Refuses}
 use Rattle.reader.specs.Known.{knownOf}
 use Rattle.exact.specs.Exact.{Relation, Exact}
@@ -15,8 +15,9 @@ use Rattle.rules.specs.Rules.{Rules}
 use Rattle.grammar.specs.Fields.{Field}
 use Rattle.grammar.specs.Message.{empty-lines, line-end, head}
 use Rattle.grammar.specs.Message as grammar
-use Rattle.parts.specs.declared.Error.{Error}
 use Rattle.parts.specs.declared.Error.the-variants.{TooManyHeaders}
+use Rattle.parts.specs.declared.Fault.{Fault}
+use Rattle.parts.specs.Answers.{fault}
 use Rattle.fields.specs.declared.Header.{Header}
 use Rattle.blocks.specs.Block.{Blocks, block}
 use Rattle.blocks.specs.Block as blocks
@@ -26,7 +27,7 @@ use Rattle.agreement.specs.Head.{exact-head}
 use Rattle.agreement.specs.Places.{At, at-start, at-as, at-first, at-second, from-at}
 use Rattle.agreement.specs.Fields.{HeaderIs, fields-are, fieldsOf, block-derived, block-read, block-over, few-fields, Each, fields-in}
 use Rattle.agreement.specs.FieldLine.{HeaderIn}
-use Rattle.agreement.specs.Full.{OrdinaryLine, head-full}
+use Rattle.agreement.specs.Full.{LocatedLine, head-full}
 use Rattle.agreement.specs.Steps.{passed-is, Started, LineRead}
 
 module _ {L K : Type 0} (Head : List ℕ → L → List Field → Type 0) (Says : List ℕ → K → L → Type 0) (n : ℕ) where
@@ -52,10 +53,10 @@ module _ {L K : Type 0} (Head : List ℕ → L → List Field → Type 0) (Says 
   pub record Exactly (read : List ℕ → Heads K) : Type 0 where
     pub sound : (z : List ℕ) (k : K) (hs : List Header) (q : ℕ) → read z ≡ got (k, hs) q → Found z k hs q
     pub complete : (w rest : List ℕ) (l : L) (fs : List Field) → Head w l fs → length fs ≤ n → Tells (w ++ rest) l fs (λ k hs. got (k, hs) (length w)) (read (w ++ rest))
-    pub too-many : (w rest : List ℕ) (l : L) (fs : List Field) → Head w l fs → n < length fs → Tells (w ++ rest) l (take n fs) (λ k hs. bad (TooManyHeaders, (k, hs))) (read (w ++ rest))
+    pub too-many : (w rest : List ℕ) (l : L) (fs : List Field) → Head w l fs → n < length fs → (c : ℕ) × Tells (w ++ rest) l (take n fs) (λ k hs. bad (fault TooManyHeaders c, (k, hs))) (read (w ++ rest))
     pub few : (z : List ℕ) → length (given (read z)) ≤ n
-    pub full : (z : List ℕ) (x : Known K) → read z ≡ bad (TooManyHeaders, x) → n ≤ length (x .1)
-    pub stays : (s u : List ℕ) (x : Error × Known K) → read s ≡ bad x → read (s ++ u) ≡ bad x
+    pub full : (z : List ℕ) (x : Fault × Known K) → read z ≡ bad x → x .0 .error ≡ TooManyHeaders → n ≤ length (x .1 .1)
+    pub stays : (s u : List ℕ) (x : Fault × Known K) → read s ≡ bad x → read (s ++ u) ≡ bad x
 
 -- every place that a reader tells lies in the input, whatever it answers
 pub record Lies {K : Type 0} (In : List ℕ → K → Type 0) (read : List ℕ → Heads K) : Type 0 where
@@ -73,8 +74,8 @@ line-over k (got hs q) = refl
 line-over k (short hs) = refl
 line-over k (bad x) = refl
 
-module _ (r : Rules) (n : ℕ) {K S : Type 0} (m : Step S K (Error × K)) (known : S → K) (s : S) where
-  line-is : (z : List ℕ) (a : Answer K K (Error × K)) → knownOf (headed a (λ k q. over k (block r n [] z q))) .0 ≡ knownOf a
+module _ (r : Rules) (n : ℕ) {K S : Type 0} (m : Step S K (Fault × K)) (known : S → K) (s : S) where
+  line-is : (z : List ℕ) (a : Answer K K (Fault × K)) → knownOf (headed a (λ k q. over k (block r n [] z q))) .0 ≡ knownOf a
   line-is z (got k q) = line-over k (block r n [] z q)
   line-is z (short k) = refl
   line-is z (bad x) = refl
@@ -83,7 +84,7 @@ module _ (r : Rules) (n : ℕ) {K S : Type 0} (m : Step S K (Error × K)) (known
   head-line z = ap (λ (y : Heads K). knownOf y .0) (head-parts r n m known s z) ∙ line-is z (answer known (runAt m s z 0))
 
   -- what holds of the headers of every block holds of those of a head
-  given-is : (P : List Header → Type 0) → P [] → (z : List ℕ) → ((q : ℕ) → P (blocks.given (block r n [] z q))) → (a : Answer K K (Error × K)) → P (given (headed a (λ k q. over k (block r n [] z q))))
+  given-is : (P : List Header → Type 0) → P [] → (z : List ℕ) → ((q : ℕ) → P (blocks.given (block r n [] z q))) → (a : Answer K K (Fault × K)) → P (given (headed a (λ k q. over k (block r n [] z q))))
   given-is P h z g (got k q) = subst P (sym (given-over k (block r n [] z q))) (g q)
   given-is P h z g (short k) = h
   given-is P h z g (bad x) = h
@@ -98,7 +99,7 @@ module _ (r : Rules) (n : ℕ) {K S : Type 0} (m : Step S K (Error × K)) (known
     are = λ z. head-given (Each (HeaderIs z)) tt z (λ q. fields-are z r n [] q tt);
   }
 
-module _ (r : Rules) (n : ℕ) {L K S : Type 0} (m : Step S K (Error × K)) (known : S → K) (s : S) {G : Relation K} (M : Exact m s G) (ordinary : Refuses OrdinaryLine m)
+module _ (r : Rules) (n : ℕ) {L K S : Type 0} (m : Step S K (Fault × K)) (known : S → K) (s : S) {G : Relation K} (M : Exact m s G) (ordinary : Refuses LocatedLine m)
     (start-line : List ℕ → L → Type 0) (Says : List ℕ → K → L → Type 0)
     (derived : (z w rest : List ℕ) (k : K) → At z 0 w rest → G 0 w k rest → Started r start-line (Says z k) w)
     (reads : (z e l c rest : List ℕ) (g : L) → At z 0 (e ++ l ++ c) rest → empty-lines r e → start-line l g → line-end r c → LineRead Says G z 0 (e ++ l ++ c) g rest) where
@@ -144,7 +145,7 @@ module _ (r : Rules) (n : ℕ) {L K S : Type 0} (m : Step S K (Error × K)) (kno
       let q : 0 + length (e ++ v ++ c) + length b ≡ length (e ++ v ++ c ++ b) = omega (arith, length-append (e ++ v ++ c) b) in
       record { k = R .k; hs = F .new; says = R .says; holds = F .holds; answers = line-got z (e ++ v ++ c) (b ++ rest) (R .k) h₁ (R .reads) ∙ ap (over (R .k)) (F .answers) ∙ ap (got (R .k, F .new)) q }
 
-  over-head : (w rest : List ℕ) (l : L) (fs : List Field) → head r start-line w l fs → n < length fs → Tells (head r start-line) Says n (w ++ rest) l (take n fs) (λ k hs. bad (TooManyHeaders, (k, hs))) (read (w ++ rest))
+  over-head : (w rest : List ℕ) (l : L) (fs : List Field) → head r start-line w l fs → n < length fs → (c : ℕ) × Tells (head r start-line) Says n (w ++ rest) l (take n fs) (λ k hs. bad (fault TooManyHeaders c, (k, hs))) (read (w ++ rest))
   over-head w rest l fs (grammar.head.message {e = e} {w = v} {c = c} {b = b} empty line ends block) f =
       let z : List ℕ = e ++ v ++ c ++ b ++ rest in
       let h = at-start (e ++ v ++ c ++ b) rest in
@@ -152,7 +153,7 @@ module _ (r : Rules) (n : ℕ) {L K S : Type 0} (m : Step S K (Error × K)) (kno
       let R = reads z e v c (b ++ rest) l h₁ empty line ends in
       let F = block-over z r n (at-second (e ++ v ++ c) b h) block [] (omega arith) (omega (arith, f)) in
       let j : n - 0 ≡ n = omega arith in
-      record { k = R .k; hs = F .new; says = R .says; holds = F .holds ∙ ap (λ y. take y fs) j; answers = line-got z (e ++ v ++ c) (b ++ rest) (R .k) h₁ (R .reads) ∙ ap (over (R .k)) (F .answers) }
+      (F .position, record { k = R .k; hs = F .new; says = R .says; holds = F .holds ∙ ap (λ y. take y fs) j; answers = line-got z (e ++ v ++ c) (b ++ rest) (R .k) h₁ (R .reads) ∙ ap (over (R .k)) (F .answers) })
 
   pub exactly : Exactly (head r start-line) Says n read
   exactly = record {
@@ -160,6 +161,6 @@ module _ (r : Rules) (n : ℕ) {L K S : Type 0} (m : Step S K (Error × K)) (kno
     complete = complete-head;
     too-many = over-head;
     few = λ z. head-given r n m known s (λ hs. length hs ≤ n) (omega arith) z (λ q. few-fields z r n [] q (omega arith));
-    full = head-full r n m known s ordinary;
+    full = λ z x e. let u = answered-bad (headKnown r n m known s) _ e in head-full r n m known s ordinary z x (u .0) (u .1) .full;
     stays = λ z u x. bad-stays (headKnown r n m known s) (headStep r n m known s) z u (first s) 0;
   }

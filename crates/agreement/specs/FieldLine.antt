@@ -124,6 +124,13 @@ kind-name e = cc
 kind-value : {h : Header} {n v : Piece} → header h ≡ named n v → h .value ≡ v
 kind-value e = cc
 
+-- a header's name begins where its line does
+pub name-first : {r : Rules} {p : ℕ} {w rest : List ℕ} {h : Header} → Lined r p w (header h) rest → h .name .offset ≡ p
+name-first (one b bs e t K) = never cc
+name-first {h = h} (other b bs e t K) =
+    let same : header h ≡ named (K .a) (K .right .a) = passed-is (K .right .right .passes) in
+    ap (λ (y : Piece). y .offset) (kind-name same ∙ K .left .place)
+
 -- where a line is a header's, its pieces are those that were read
 pub line-in : {r : Rules} {p : ℕ} {w rest : List ℕ} {h : Header} → Lined r p w (header h) rest → HeaderIn (p + length w) h
 line-in (one b bs e t K) = never cc

@@ -20,8 +20,9 @@ use Rattle.rules.specs.Rules.{Rules}
 use Rattle.grammar.specs.Fields.{field-name, field-value, Field}
 use Rattle.grammar.specs.Message.{field-line, header-block}
 use Rattle.grammar.specs.Message as grammar
-use Rattle.parts.specs.declared.Error.{Error}
 use Rattle.parts.specs.declared.Error.the-variants.{TooManyHeaders}
+use Rattle.parts.specs.declared.Fault.{Fault}
+use Rattle.parts.specs.Answers.{fault}
 use Rattle.fields.specs.declared.Header.{Header}
 use Rattle.fields.specs.Line.{Kind, header, end, lineStep, line}
 use Rattle.blocks.specs.Block.{taken, block, block-line, given}
@@ -29,7 +30,7 @@ use Rattle.agreement.specs.Line.{Lined, exact-line}
 use Rattle.agreement.specs.Block.{Lapped, line-long}
 use Rattle.agreement.specs.Places.{At, at-drop, at-first, at-second, from-at}
 use Rattle.agreement.specs.Known.{AreFields}
-use Rattle.agreement.specs.FieldLine.{fieldOf, LineIs, ended, field, line-derived, field-read, end-read, HeaderIn, line-in}
+use Rattle.agreement.specs.FieldLine.{fieldOf, LineIs, ended, field, line-derived, field-read, end-read, HeaderIn, name-first, line-in}
 
 -- the fields that headers hold
 abbrev pub fieldsOf : List ℕ → List Header → List Field
@@ -53,15 +54,15 @@ pub record Added (z : List ℕ) (r : Rules) (n : ℕ) (hs : List Header) (w : Li
 
 -- what a line does to the headers, where the block goes on and where it ends
 abbrev Next : Type 0
-Next = Verdict (Turn (List Header) (List Header)) (Error × List Header)
+Next = Verdict (Turn (List Header) (List Header)) (Fault × List Header)
 
-again-is : (t : Bool) (hs hs′ new : List Header) → _≡_ {A = Next} (cond t (pass (again new)) (fail (TooManyHeaders, hs))) (pass (again hs′)) → (t ≡ true) × (new ≡ hs′)
-again-is true hs hs′ new e = (refl, cc)
-again-is false hs hs′ new e = never cc
+again-is : (t : Bool) (x : Fault) (hs hs′ new : List Header) → _≡_ {A = Next} (cond t (pass (again new)) (fail (x, hs))) (pass (again hs′)) → (t ≡ true) × (new ≡ hs′)
+again-is true x hs hs′ new e = (refl, cc)
+again-is false x hs hs′ new e = never cc
 
-never-done : (t : Bool) (hs b new : List Header) → _≡_ {A = Next} (cond t (pass (again new)) (fail (TooManyHeaders, hs))) (pass (done b)) → ⊥
-never-done true hs b new e = never cc
-never-done false hs b new e = never cc
+never-done : (t : Bool) (x : Fault) (hs b new : List Header) → _≡_ {A = Next} (cond t (pass (again new)) (fail (x, hs))) (pass (done b)) → ⊥
+never-done true x hs b new e = never cc
+never-done false x hs b new e = never cc
 
 module _ {z : List ℕ} {r : Rules} {n : ℕ} where
   last-line : (hs : List Header) (w : List ℕ) (b : List Header) (k : Kind) → LineIs z r w k → taken n hs k ≡ pass (done b) → Added z r n hs w b
@@ -70,7 +71,7 @@ module _ {z : List ℕ} {r : Rules} {n : ℕ} where
       let same : b ≡ hs = cc in
       record { new = []; whole = same ∙ sym (append-nil hs); block = grammar.header-block.end d; fits = λ l. omega (arith, ap length same) }
   last-line hs w b k (field h l e q s f d) t =
-      let t′ : taken n hs (header h) ≡ pass (done b) = rw q at t in absurd (never-done (ltb (length hs) n) hs b (hs ++ (h ∷ [])) t′)
+      let t′ : taken n hs (header h) ≡ pass (done b) = rw q at t in absurd (never-done (ltb (length hs) n) (fault TooManyHeaders (h .name .offset)) hs b (hs ++ (h ∷ [])) t′)
 
   next-line : (hs hs′ : List Header) (w v : List ℕ) (b : List Header) (k : Kind) → LineIs z r w k → taken n hs k ≡ pass (again hs′) → Added z r n hs′ v b → Added z r n hs (w ++ v) b
   next-line hs hs′ w v b k (ended e d) t A =
@@ -78,7 +79,7 @@ module _ {z : List ℕ} {r : Rules} {n : ℕ} where
       never cc
   next-line hs hs′ w v b k (field h l e q s f d) t A =
       let t′ : taken n hs (header h) ≡ pass (again hs′) = rw q at t in
-      let u = again-is (ltb (length hs) n) hs hs′ (hs ++ (h ∷ [])) t′ in
+      let u = again-is (ltb (length hs) n) (fault TooManyHeaders (h .name .offset)) hs hs′ (hs ++ (h ∷ [])) t′ in
       record {
         new = h ∷ A .new;
         whole = A .whole ∙ ap (λ y. y ++ A .new) (sym (u .1)) ∙ append-assoc hs (h ∷ []) (A .new);
@@ -91,18 +92,18 @@ module _ {z : List ℕ} {r : Rules} {n : ℕ} where
   block-derived h (next {a = hs} {a′ = hs′} {w₁ = w} {w₂ = v} {b = b} K k) = next-line hs hs′ w v b (K .a) (line-derived (at-first w v h) (K .holds)) (K .passes) (block-derived (at-second w v h) k)
 
 -- the answer of a line that stands at a place
-line-at : {z : List ℕ} {r : Rules} {p : ℕ} {w : List ℕ} {k : Kind} {rest : List ℕ} → At z p w rest → Lined r p w k rest → line r z p ≡ got k (p + length w)
+pub line-at : {z : List ℕ} {r : Rules} {p : ℕ} {w : List ℕ} {k : Kind} {rest : List ℕ} → At z p w rest → Lined r p w k rest → line r z p ≡ got k (p + length w)
 line-at {z} {r} {p} {w} {k} {rest} h K = ap (λ y. answer nothing (run (lineStep r) fresh p y)) (from-at h) ∙ ap (answer nothing) (exact-line r .complete p w rest k K)
 
 module _ (z : List ℕ) (r : Rules) (n : ℕ) where
   -- a header that has a slot, and one that has none
-  one-more : (hs : List Header) (h : Header) (p q : ℕ) → line r z p ≡ got (header h) q → length hs < n → block r n hs z p ≡ block r n (hs ++ (h ∷ [])) z q
+  pub one-more : (hs : List Header) (h : Header) (p q : ℕ) → line r z p ≡ got (header h) q → length hs < n → block r n hs z p ≡ block r n (hs ++ (h ∷ [])) z q
   one-more hs h p q e l = block-line r n hs z p ∙ rw (e, lt-ltb (length hs) n l)
 
-  one-over : (hs : List Header) (h : Header) (p q : ℕ) → line r z p ≡ got (header h) q → n ≤ length hs → block r n hs z p ≡ bad (TooManyHeaders, hs)
+  pub one-over : (hs : List Header) (h : Header) (p q : ℕ) → line r z p ≡ got (header h) q → n ≤ length hs → block r n hs z p ≡ bad (fault TooManyHeaders (h .name .offset), hs)
   one-over hs h p q e l = block-line r n hs z p ∙ rw (e, le-ltb (length hs) n l)
 
-  the-end : (hs : List Header) (p q : ℕ) → line r z p ≡ got end q → block r n hs z p ≡ got hs q
+  pub the-end : (hs : List Header) (p q : ℕ) → line r z p ≡ got end q → block r n hs z p ≡ got hs q
   the-end hs p q e = block-line r n hs z p ∙ rw e
 
   -- where the fields fit all of them are given
@@ -114,8 +115,9 @@ module _ (z : List ℕ) (r : Rules) (n : ℕ) where
   -- where they don't, those that fit are
   pub record Over (hs : List Header) (p : ℕ) (fs : List Field) : Type 0 where
     pub new : List Header
+    pub position : ℕ
     pub holds : fieldsOf z new ≡ take (n - length hs) fs
-    pub answers : block r n hs z p ≡ bad (TooManyHeaders, hs ++ new)
+    pub answers : block r n hs z p ≡ bad (fault TooManyHeaders position, hs ++ new)
 
   pub block-read : {p : ℕ} {w rest : List ℕ} {fs : List Field} → At z p w rest → header-block r w fs → (hs : List Header) → length hs + length fs ≤ n → Fits hs p w fs
   block-read {p} h (grammar.header-block.end {e = e} d) hs l = record { new = []; holds = refl; answers = the-end hs p (p + length e) (line-at h (end-read d)) ∙ ap (λ y. got y (p + length e)) (sym (append-nil hs)) }
@@ -139,13 +141,14 @@ module _ (z : List ℕ) (r : Rules) (n : ℕ) where
       let j : n - length hs ≡ suc (n - length (hs ++ (h ∷ []))) = omega (arith, m, ltb-true (length hs) n u) in
       record {
         new = h ∷ K .new;
+        position = K .position;
         holds = ap (λ y. y ∷ fieldsOf z (K .new)) g ∙ ap (λ y. f ∷ y) (K .holds) ∙ sym (ap (λ y. take y (f ∷ fs)) j);
-        answers = one-more hs h p q e (ltb-true (length hs) n u) ∙ K .answers ∙ ap (λ y. bad (TooManyHeaders, y)) (append-assoc hs (h ∷ []) (K .new));
+        answers = one-more hs h p q e (ltb-true (length hs) n u) ∙ K .answers ∙ ap (λ y. bad (fault TooManyHeaders (K .position), y)) (append-assoc hs (h ∷ []) (K .new));
       }
   over-by {p} {fs} {f} hs h q e g l go false u =
       let o : n ≤ length hs = ltb-false (length hs) n u in
       let j : n - length hs ≡ 0 = omega (arith, o) in
-      record { new = []; holds = sym (ap (λ y. take y (f ∷ fs)) j); answers = one-over hs h p q e o ∙ ap (λ y. bad (TooManyHeaders, y)) (sym (append-nil hs)) }
+      record { new = []; position = h .name .offset; holds = sym (ap (λ y. take y (f ∷ fs)) j); answers = one-over hs h p q e o ∙ ap (λ y. bad (fault TooManyHeaders (h .name .offset), y)) (sym (append-nil hs)) }
 
   pub block-over : {p : ℕ} {w rest : List ℕ} {fs : List Field} → At z p w rest → header-block r w fs → (hs : List Header) → length hs ≤ n → n < length hs + length fs → Over hs p fs
   block-over h (grammar.header-block.end d) hs l o = absurd (omega (arith, l, o))
@@ -165,6 +168,9 @@ module _ (z : List ℕ) (r : Rules) (n : ℕ) where
       let k = line-in (P .holds) in
       (omega (arith, k .0, s, l), omega (arith, k .1, s, l))
 
+  pub line-first : (p q : ℕ) (h : Header) → line r z p ≡ got (header h) q → h .name .offset ≡ p
+  line-first p q h e = name-first (exact-line r .sound p (drop p z) (header h) q (answered nothing _ e) .holds)
+
   -- a line's end is behind its start, and in the input
   pub line-within : (p q : ℕ) (k : Kind) → line r z p ≡ got k q → (p + 1 ≤ q) × (q ≤ length z)
   line-within p q k e =
@@ -175,7 +181,7 @@ module _ (z : List ℕ) (r : Rules) (n : ℕ) where
 
   -- what holds of the headers before a block, and still holds with one more that is read, holds of all that are given
   module _ (P : List Header → Type 0) (grows : (hs : List Header) (h : Header) (p q : ℕ) → line r z p ≡ got (header h) q → length hs < n → P hs → P (hs ++ (h ∷ []))) where
-    given-line : (hs : List Header) (p : ℕ) → P hs → ((hs′ : List Header) (q : ℕ) → P hs′ → p + 1 ≤ q → q ≤ length z → P (given (block r n hs′ z q))) → (a : Answer (Unit {0}) Kind Error) → line r z p ≡ a → P (given (rounds (retold (λ _. hs) (taken n hs) (λ e. (e, hs)) a) (λ hs′ q. block r n hs′ z q)))
+    given-line : (hs : List Header) (p : ℕ) → P hs → ((hs′ : List Header) (q : ℕ) → P hs′ → p + 1 ≤ q → q ≤ length z → P (given (block r n hs′ z q))) → (a : Answer (Unit {0}) Kind Fault) → line r z p ≡ a → P (given (rounds (retold (λ _. hs) (taken n hs) (λ e. (e, hs)) a) (λ hs′ q. block r n hs′ z q)))
     given-line hs p f ih (short u) e = f
     given-line hs p f ih (bad x) e = f
     given-line hs p f ih (got end q) e = f

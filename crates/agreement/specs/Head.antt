@@ -9,7 +9,7 @@ use Rattle.reader.specs.Branch.{fresh}
 use Rattle.exact.specs.Exact.{Relation, Exact}
 use Rattle.exact.specs.Judged.{Passes, exact-judged}
 use Rattle.exact.specs.Seq.{Both, exact-seq}
-use Rattle.parts.specs.declared.Error.{Error}
+use Rattle.parts.specs.declared.Fault.{Fault}
 use Rattle.rules.specs.Rules.{Rules}
 use Rattle.blocks.specs.Block.{blockStep}
 use Rattle.heads.specs.Head.{Known, blockOn, headStep}
@@ -17,10 +17,10 @@ use Rattle.agreement.specs.Block.{Blocked, exact-block}
 
 -- what a start line relates, and a block behind it
 abbrev pub Headed : {K : Type 0} → Rules → ℕ → Relation K → Relation (Known K)
-Headed {K} r n G = Both (Passes {F = Error × Known K} pass G) (λ k. Passes {F = Error × Known K} (λ hs. pass (k, hs)) (Blocked r n))
+Headed {K} r n G = Both (Passes {F = Fault × Known K} pass G) (λ k. Passes {F = Fault × Known K} (λ hs. pass (k, hs)) (Blocked r n))
 
 module _ (r : Rules) (n : ℕ) where
-  pub exact-head : {K S : Type 0} (m : Step S K (Error × K)) (known : S → K) (s : S) {G : Relation K} → Exact m s G → Exact (headStep r n m known s) (first s) (Headed r n G)
+  pub exact-head : {K S : Type 0} (m : Step S K (Fault × K)) (known : S → K) (s : S) {G : Relation K} → Exact m s G → Exact (headStep r n m known s) (first s) (Headed r n G)
   exact-head m known s M =
       exact-seq (judged pass (λ x. (x .0, (x .1, []))) m) (λ _. ([], fresh)) (blockOn r n m known s) s
       (exact-judged pass (λ x. (x .0, (x .1, []))) m M)

@@ -16,7 +16,7 @@ use Rattle.octets.specs.Outside.{space-no-token}
 use Rattle.rules.specs.Rules.{Rules}
 use Rattle.grammar.specs.Rows.{Many, none}
 use Rattle.grammar.specs.Message.{method, request-target, ascii-text}
-use Rattle.parts.specs.declared.Error.{Error}
+use Rattle.parts.specs.declared.Fault.{Fault}
 use Rattle.parts.specs.declared.Error.the-variants.{NewLine, Status, Token, Version}
 use Rattle.parts.specs.declared.Piece.{Piece}
 use Rattle.parts.specs.Answers.{piece}
@@ -41,7 +41,7 @@ use Rattle.agreement.specs.Starts.{target-derived, ascii-is}
 use Rattle.agreement.specs.Known.{RequestInside, StatusInside}
 
 -- a piece that an exact machine gives lies in the input and holds such bytes, where its relation says that it does so in what was read
-module _ {S : Type 0} {m : Step S Piece Error} {s : S} {G : Relation Piece} (M : Exact m s G) (Such : List ℕ → Type 0)
+module _ {S : Type 0} {m : Step S Piece Fault} {s : S} {G : Relation Piece} (M : Exact m s G) (Such : List ℕ → Type 0)
     (such : (p : ℕ) (w : List ℕ) (a : Piece) (rest : List ℕ) → G p w a rest → (v u : List ℕ) × (w ≡ v ++ u) × (a ≡ piece p (p + length v)) × Such v × (1 ≤ length w + length rest)) where
   piece-in : (z : List ℕ) (p : ℕ) (a : Piece) (q : ℕ) → reads m s z p ≡ got a q → (a .offset + a .length ≤ length z) × Such (held z a)
   piece-in z p a q e =
@@ -84,10 +84,10 @@ module _ (r : Rules) (z : List ℕ) where
       (chain-holds In requests.unread (λ _. requests.unread) (record { method = tt; target = tt }) (requests.fromMethod r z) (emptyLines r z 0) (λ x i e. method-in requests.unread i (record { method = tt; target = tt })))
 
 -- a reason is given with its line's end
-reason-got : (x : Answer (Unit {0}) Piece Error) (y : Piece → ℕ → Answer (Unit {0}) (Unit {0}) Error) (a : Piece) (q : ℕ) → and x (λ w i. ended w (y w i)) ≡ got a q → (i : ℕ) × (x ≡ got a i)
+reason-got : (x : Answer (Unit {0}) Piece Fault) (y : Piece → ℕ → Answer (Unit {0}) (Unit {0}) Fault) (a : Piece) (q : ℕ) → and x (λ w i. ended w (y w i)) ≡ got a q → (i : ℕ) × (x ≡ got a i)
 reason-got (got w i) y a q e = (i, ap (λ v. got v i) (by (y w i) e))
   where
-    by : (b : Answer (Unit {0}) (Unit {0}) Error) → ended w b ≡ got a q → w ≡ a
+    by : (b : Answer (Unit {0}) (Unit {0}) Fault) → ended w b ≡ got a q → w ≡ a
     by (got u j) f = cc
     by (short u) f = never cc
     by (bad u) f = never cc

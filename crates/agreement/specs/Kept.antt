@@ -13,8 +13,9 @@ use Rattle.reader.specs.Answer.{got, bad}
 use Rattle.reader.specs.Tests.{never}
 use Rattle.reader.specs.Known.{knownOf}
 use Rattle.grammar.specs.Fields.{Field}
-use Rattle.parts.specs.declared.Error.{Error}
 use Rattle.parts.specs.declared.Error.the-variants.{TooManyHeaders}
+use Rattle.parts.specs.declared.Fault.{Fault}
+use Rattle.parts.specs.Answers.{fault}
 use Rattle.parts.specs.declared.Passed.{Passed}
 use Rattle.parts.specs.declared.Passed.the-variants.{At, More, Bad}
 use Rattle.fields.specs.declared.Header.{Header}
@@ -58,15 +59,15 @@ filled-length hs old l = omega (arith, l, length-append (flat hs) (drop (length 
 
 -- an answer tells how it ended, and what is known
 module _ {K : Type 0} where
-  told-got : (end : Passed) (k k′ : K) (hs hs′ : List Header) (q : ℕ) → _≡_ {A = Heads K} (tell end (k, hs)) (got (k′, hs′) q) → (end ≡ At q) × (k ≡ k′) × (hs ≡ hs′)
+  pub told-got : (end : Passed) (k k′ : K) (hs hs′ : List Header) (q : ℕ) → _≡_ {A = Heads K} (tell end (k, hs)) (got (k′, hs′) q) → (end ≡ At q) × (k ≡ k′) × (hs ≡ hs′)
   told-got (At p) k k′ hs hs′ q e = let u : _≡_ {A = Known K} (k, hs) (k′, hs′) = cc in (cc, ap (λ y. y .0) u, ap (λ y. y .1) u)
   told-got More k k′ hs hs′ q e = never cc
   told-got (Bad x) k k′ hs hs′ q e = never cc
 
-  pub told-bad : (end : Passed) (k k′ : K) (hs hs′ : List Header) (x : Error) → _≡_ {A = Heads K} (tell end (k, hs)) (bad (x, (k′, hs′))) → (end ≡ Bad x) × (k ≡ k′) × (hs ≡ hs′)
+  pub told-bad : (end : Passed) (k k′ : K) (hs hs′ : List Header) (x : Fault) → _≡_ {A = Heads K} (tell end (k, hs)) (bad (x, (k′, hs′))) → (end ≡ Bad x) × (k ≡ k′) × (hs ≡ hs′)
   told-bad (At p) k k′ hs hs′ q e = never cc
   told-bad More k k′ hs hs′ q e = never cc
-  told-bad (Bad x) k k′ hs hs′ q e = let u : _≡_ {A = Error × Known K} (x, (k, hs)) (q, (k′, hs′)) = cc in (ap (λ y. Bad (y .0)) u, ap (λ y. y .1 .0) u, ap (λ y. y .1 .1) u)
+  told-bad (Bad x) k k′ hs hs′ q e = let u : _≡_ {A = Fault × Known K} (x, (k, hs)) (q, (k′, hs′)) = cc in (ap (λ y. Bad (y .0)) u, ap (λ y. y .1 .0) u, ap (λ y. y .1 .1) u)
 
 -- as many fields are in the slots as are counted
 pub fields-counted : (z : List ℕ) (count : ℕ) (slots : List ℕ) → length (fieldsIn z count slots) ≡ count
@@ -77,7 +78,7 @@ fields-counted z (suc count) slots = ap suc (fields-counted z count (drop 4 slot
 pub told-line : {K : Type 0} {a : Heads K} {end : Passed} {line : K} {count : ℕ} {old new : List ℕ} → Told a end line count old new → knownOf a .0 ≡ line
 told-line {K} {a} {end} {line} T = ap (λ (y : Heads K). knownOf y .0) (sym (T .answer)) ∙ by end
   where
-    by : (end : Passed) → knownOf {K = Known K} {E = Error} (tell end (line, given a)) .0 ≡ line
+    by : (end : Passed) → knownOf {K = Known K} {E = Fault} (tell end (line, given a)) .0 ≡ line
     by (At q) = refl
     by More = refl
     by (Bad x) = refl
@@ -85,10 +86,10 @@ told-line {K} {a} {end} {line} T = ap (λ (y : Heads K). knownOf y .0) (sym (T .
 at-more : {q : ℕ} → At q ≡ More → ⊥
 at-more e = never cc
 
-bad-same : {x y : Error} → Bad x ≡ Bad y → x ≡ y
+bad-same : {x y : Fault} → Bad x ≡ Bad y → x ≡ y
 bad-same e = cc
 
-bad-more : {x : Error} → Bad x ≡ More → ⊥
+bad-more : {x : Fault} → Bad x ≡ More → ⊥
 bad-more e = never cc
 
 module _ {L K : Type 0} {Head : List ℕ → L → List Field → Type 0} {Says : List ℕ → K → L → Type 0} {s old : List ℕ} {end : Passed} {line : K} {count : ℕ} {new : List ℕ} {read : List ℕ → Heads K} {In : List ℕ → K → Type 0} (X : Exactly Head Says (length old / 4) read) (Y : Lies In read) (T : Told (read s) end line count old new) where
@@ -100,7 +101,7 @@ module _ {L K : Type 0} {Head : List ℕ → L → List Field → Type 0} {Says 
   read-got : (q : ℕ) → end ≡ At q → read s ≡ got (line, given (read s)) q
   read-got q e = sym (T .answer) ∙ ap (λ y. tell y (line, given (read s))) e
 
-  read-bad : (x : Error) → end ≡ Bad x → read s ≡ bad (x, (line, given (read s)))
+  read-bad : (x : Fault) → end ≡ Bad x → read s ≡ bad (x, (line, given (read s)))
   read-bad x e = sym (T .answer) ∙ ap (λ y. tell y (line, given (read s))) e
 
   completes : (q : ℕ) → end ≡ At q → HeadAt Head Says s q line (fieldsIn s count new)
@@ -115,15 +116,17 @@ module _ {L K : Type 0} {Head : List ℕ → L → List Field → Type 0} {Says 
       let u = told-got end line (A .k) (given (read s)) (A .hs) (length w) (T .answer ∙ r) in
       (u .0, subst (λ y. Says y line l) (sym e) (subst (λ y. Says (w ++ t) y l) (sym (u .1)) (A .says)), in-slots ∙ ap (fieldsOf s) (u .2) ∙ ap (λ y. fieldsOf y (A .hs)) e ∙ A .holds)
 
-  overflow : (w t : List ℕ) (l : L) (fs : List Field) → s ≡ w ++ t → Head w l fs → length old / 4 < length fs → (end ≡ Bad TooManyHeaders) × Says s line l × (fieldsIn s count new ≡ take (length old / 4) fs)
+  overflow : (w t : List ℕ) (l : L) (fs : List Field) → s ≡ w ++ t → Head w l fs → length old / 4 < length fs → (p : ℕ) × (end ≡ Bad (fault TooManyHeaders p)) × Says s line l × (fieldsIn s count new ≡ take (length old / 4) fs)
   overflow w t l fs e h f =
-      let A = X .too-many w t l fs h f in
-      let r : read s ≡ bad (TooManyHeaders, (A .k, A .hs)) = ap read e ∙ A .answers in
-      let u = told-bad end line (A .k) (given (read s)) (A .hs) TooManyHeaders (T .answer ∙ r) in
-      (u .0, subst (λ y. Says y line l) (sym e) (subst (λ y. Says (w ++ t) y l) (sym (u .1)) (A .says)), in-slots ∙ ap (fieldsOf s) (u .2) ∙ ap (λ y. fieldsOf y (A .hs)) e ∙ A .holds)
+      let B = X .too-many w t l fs h f in
+      let A = B .1 in
+      let x = fault TooManyHeaders (B .0) in
+      let r : read s ≡ bad (x, (A .k, A .hs)) = ap read e ∙ A .answers in
+      let u = told-bad end line (A .k) (given (read s)) (A .hs) x (T .answer ∙ r) in
+      (B .0, u .0, subst (λ y. Says y line l) (sym e) (subst (λ y. Says (w ++ t) y l) (sym (u .1)) (A .says)), in-slots ∙ ap (fieldsOf s) (u .2) ∙ ap (λ y. fieldsOf y (A .hs)) e ∙ A .holds)
 
   -- an error stays, and a head that fits would not be one
-  errs : (x : Error) → end ≡ Bad x → (u w t : List ℕ) (l : L) (fs : List Field) → s ++ u ≡ w ++ t → Head w l fs → length fs ≤ length old / 4 → ⊥
+  errs : (x : Fault) → end ≡ Bad x → (u w t : List ℕ) (l : L) (fs : List Field) → s ++ u ≡ w ++ t → Head w l fs → length fs ≤ length old / 4 → ⊥
   errs x e u w t l fs i h f =
       let A = X .complete w t l fs h f in
       let b : read (s ++ u) ≡ bad (x, (line, given (read s))) = X .stays s u (x, (line, given (read s))) (read-bad x e) in
@@ -131,24 +134,26 @@ module _ {L K : Type 0} {Head : List ℕ → L → List Field → Type 0} {Says 
       let c = sym b ∙ g in
       never cc
 
-  errs-at-all : (x : Error) → end ≡ Bad x → (x ≡ TooManyHeaders → ⊥) → (u w t : List ℕ) (l : L) (fs : List Field) → s ++ u ≡ w ++ t → Head w l fs → ⊥
+  errs-at-all : (x : Fault) → end ≡ Bad x → (x .error ≡ TooManyHeaders → ⊥) → (u w t : List ℕ) (l : L) (fs : List Field) → s ++ u ≡ w ++ t → Head w l fs → ⊥
   errs-at-all x e other u w t l fs i h = by (ltb (length old / 4) (length fs)) refl
     where
       by : (b : Bool) → ltb (length old / 4) (length fs) ≡ b → ⊥
       by false f = errs x e u w t l fs i h (ltb-false (length old / 4) (length fs) f)
       by true f =
-          let A = X .too-many w t l fs h (ltb-true (length old / 4) (length fs) f) in
+          let B = X .too-many w t l fs h (ltb-true (length old / 4) (length fs) f) in
+          let A = B .1 in
+          let y = fault TooManyHeaders (B .0) in
           let b : read (s ++ u) ≡ bad (x, (line, given (read s))) = X .stays s u (x, (line, given (read s))) (read-bad x e) in
-          let g : read (s ++ u) ≡ bad (TooManyHeaders, (A .k, A .hs)) = ap read i ∙ A .answers in
-          let v = told-bad (Bad x) line (A .k) (given (read s)) (A .hs) TooManyHeaders (sym b ∙ g) in
-          other (bad-same (v .0))
+          let g : read (s ++ u) ≡ bad (y, (A .k, A .hs)) = ap read i ∙ A .answers in
+          let v = told-bad (Bad x) line (A .k) (given (read s)) (A .hs) y (sym b ∙ g) in
+          other (ap (λ (z : Fault). z .error) (bad-same (v .0)))
 
   waits : end ≡ More → (w t : List ℕ) (l : L) (fs : List Field) → s ≡ w ++ t → Head w l fs → ⊥
   waits e w t l fs i h = by (ltb (length old / 4) (length fs)) refl
     where
       by : (b : Bool) → ltb (length old / 4) (length fs) ≡ b → ⊥
       by false f = at-more (sym (accept w t l fs i h (ltb-false (length old / 4) (length fs) f) .0) ∙ e)
-      by true f = bad-more (sym (overflow w t l fs i h (ltb-true (length old / 4) (length fs) f) .0) ∙ e)
+      by true f = bad-more (sym (overflow w t l fs i h (ltb-true (length old / 4) (length fs) f) .1) ∙ e)
 
   pub kept : HeadPromise Head Says In s old end line count new
   kept = record {
@@ -158,7 +163,7 @@ module _ {L K : Type 0} {Head : List ℕ → L → List Field → Type 0} {Says 
     error = errs;
     error-at-all = errs-at-all;
     incomplete = waits;
-    full = λ e. omega (arith, T .count-is, X .few s, X .full s (line, given (read s)) (read-bad TooManyHeaders e));
+    full = λ x e o. omega (arith, T .count-is, X .few s, X .full s (x, (line, given (read s))) (read-bad x e) o);
     inside = (subst (In s) (told-line T) (Y .line s), subst (λ y. SlotsInside (length s) y new) (sym (T .count-is)) (subst (SlotsInside (length s) (length (given (read s)))) (sym (T .slots)) (slots-in (length s) (given (read s)) old (Y .fields s))));
     fields = subst AreFields (sym in-slots) (are-fields s (given (read s)) (Y .are s));
     within = (subst (λ y. y ≤ length old / 4) (sym (T .count-is)) (X .few s), ap length (T .slots) ∙ filled-length (given (read s)) old (X .few s));

@@ -17,6 +17,8 @@ pub mod Tail
 pub mod Response
 pub mod Exactly
 pub mod Promises
+pub mod Overflow
+pub mod Decided
 pub mod Kept
 pub mod Calls
 pub mod AtOnce

@@ -10,7 +10,7 @@ use Rattle.exact.specs.Seq.{Both, exact-seq}
 use Rattle.exact.specs.Branch.{Forks, exact-branch}
 use Rattle.octets.specs.Class.{isToken}
 use Rattle.octets.specs.Outside.{colon-no-token}
-use Rattle.parts.specs.declared.Error.{Error}
+use Rattle.parts.specs.declared.Fault.{Fault}
 use Rattle.parts.specs.declared.Error.the-variants.{HeaderName, HeaderValue, NewLine}
 use Rattle.rules.specs.Rules.{Rules}
 use Rattle.parts.specs.LineEnd.{begin, lineEndStep}
@@ -23,11 +23,11 @@ use Rattle.leaves.specs.Value.{Valued, exact-value}
 
 -- a name and a colon, a value, the line's end
 abbrev pub Fielded : Rules → Relation Kind
-Fielded r = Both (Worded isToken 58) (λ n. Both Valued (λ v. Passes {F = Error} (λ _. pass (named n v)) (EndsAt r)))
+Fielded r = Both (Worded isToken 58) (λ n. Both Valued (λ v. Passes {F = Fault} (λ _. pass (named n v)) (EndsAt r)))
 
 -- or an empty line, by the first byte
 abbrev pub Lined : Rules → Relation Kind
-Lined r = Forks (ends r) (Passes {F = Error} (λ _. pass end) (EndsAt r)) (Fielded r)
+Lined r = Forks (ends r) (Passes {F = Fault} (λ _. pass end) (EndsAt r)) (Fielded r)
 
 module _ (r : Rules) where
   exact-field : Exact (fieldStep r) (first none) (Fielded r)

@@ -9,7 +9,7 @@ use Rattle.exact.specs.Judged.{Passes, exact-judged}
 use Rattle.exact.specs.Seq.{Both, exact-seq}
 use Rattle.octets.specs.Class.{isToken}
 use Rattle.octets.specs.Outside.{space-no-token}
-use Rattle.parts.specs.declared.Error.{Error}
+use Rattle.parts.specs.declared.Fault.{Fault}
 use Rattle.parts.specs.declared.Error.the-variants.{NewLine, Status, Token, Version}
 use Rattle.parts.specs.declared.Piece.{Piece}
 use Rattle.rules.specs.Rules.{Rules}
@@ -40,9 +40,9 @@ use Rattle.leaves.specs.Reason.{Reasoned, exact-reason}
 
 -- a part whose answer f adds to what is known
 abbrev pub Adds : {A K : Type 0} → (A → K) → Relation A → Relation K
-Adds {K = K} f G = Passes {F = Error × K} (λ a. pass (f a)) G
+Adds {K = K} f G = Passes {F = Fault × K} (λ a. pass (f a)) G
 
-exact-part : {S A K : Type 0} (k : K) (f : A → K) (m : Step S A Error) (s : S) {G : Relation A} → Exact m s G → Exact (part k f m) s (Adds f G)
+exact-part : {S A K : Type 0} (k : K) (f : A → K) (m : Step S A Fault) (s : S) {G : Relation A} → Exact m s G → Exact (part k f m) s (Adds f G)
 exact-part k f m s M = exact-judged (λ a. pass (f a)) (λ e. (e, k)) m M
 
 -- method, target, version, line end
@@ -77,7 +77,7 @@ module _ (r : Rules) where
 -- version, space, code, what is behind it, reason with the line end
 module _ (r : Rules) where
   abbrev pub ReasonEnds : Relation Piece
-  ReasonEnds = Both Reasoned (λ w. Passes {F = Error} (λ _. pass w) (EndsAt r))
+  ReasonEnds = Both Reasoned (λ w. Passes {F = Fault} (λ _. pass w) (EndsAt r))
 
   abbrev pub ReasonOn : StatusLine → Relation StatusLine
   ReasonOn k = Adds (response.withReason k) ReasonEnds

@@ -17,12 +17,13 @@ use Rattle.reader.specs.Chain.{nothing}
 use Rattle.reader.specs.Lifted.{lifted}
 use Rattle.reader.specs.Branch.{fresh, one, other}
 use Rattle.octets.specs.Class.{isToken}
-use Rattle.parts.specs.declared.Error.{Error}
 use Rattle.parts.specs.declared.Error.the-variants.{HeaderName, NewLine, TooManyHeaders}
+use Rattle.parts.specs.declared.Fault.{Fault}
 use Rattle.parts.specs.declared.Piece.{Piece}
 use Rattle.parts.specs.declared.Passed.{Passed}
 use Rattle.parts.specs.declared.Passed.the-variants as passes
 use Rattle.rules.specs.Rules.{Rules, default}
+use Rattle.parts.specs.Answers.{fault}
 use Rattle.parts.specs.LineEnd.{LineEnd, cr}
 use Rattle.words.specs.Word.{some}
 use Rattle.fields.specs.declared.Header.{Header}
@@ -34,27 +35,27 @@ use Rattle.fields.specs.Line.{Kind, header, end, LineState, lineStep, line, lin
 use Rattle.blocks.specs.Slots.{numbers, filled, filled-none, filled-more}
 
 -- what a line adds to the headers hs, with n slots
-abbrev pub taken : ℕ → List Header → Kind → Verdict (Turn (List Header) (List Header)) (Error × List Header)
+abbrev pub taken : ℕ → List Header → Kind → Verdict (Turn (List Header) (List Header)) (Fault × List Header)
 taken n hs end = pass (done hs)
-taken n hs (header h) = cond (ltb (length hs) n) (pass (again (hs ++ (h ∷ [])))) (fail (TooManyHeaders, hs))
+taken n hs (header h) = cond (ltb (length hs) n) (pass (again (hs ++ (h ∷ [])))) (fail (fault TooManyHeaders (h .name .offset), hs))
 
-abbrev pub lapStep : Rules → ℕ → List Header → Step LineState (Turn (List Header) (List Header)) (Error × List Header)
+abbrev pub lapStep : Rules → ℕ → List Header → Step LineState (Turn (List Header) (List Header)) (Fault × List Header)
 lapStep r n hs = judged (taken n hs) (λ e. (e, hs)) (lineStep r)
 
-abbrev pub blockStep : Rules → ℕ → Step (List Header × LineState) (List Header) (Error × List Header)
+abbrev pub blockStep : Rules → ℕ → Step (List Header × LineState) (List Header) (Fault × List Header)
 blockStep r n = loop (λ _. fresh) (lapStep r n)
 
 -- the headers that are complete are known at any time
 abbrev pub Blocks : Type 0
-Blocks = Answer (List Header) (List Header) (Error × List Header)
+Blocks = Answer (List Header) (List Header) (Fault × List Header)
 
 -- what the block answers from a position on, with n slots and the headers hs before it
 abbrev pub block : Rules → ℕ → List Header → List ℕ → ℕ → Blocks
 block r n hs xs at = answer (lapwise (λ hs _. hs)) (runAt (blockStep r n) (hs, fresh) xs at)
 
 -- no line leaves its first byte to the next
-module _ (n : ℕ) (hs hs′ : List Header) (p : ℕ) (start : Piece → Then Value Piece LineEnd) (k : Piece → Move (Then Value Piece LineEnd) Kind Error) where
-  never : (t u w : Bool) → moved {S = LineState} (taken n hs) (λ e. (e, hs)) (cond (t || u) (lifted one (moved {S = LineEnd} {A = Unit {0}} (λ _. pass end) (λ e. e) (cond t (keep cr) (cond u (give (tt {0})) (refuse NewLine))))) (lifted other (cross (cond w (keep (some p)) (refuse HeaderName)) start k))) ≡ before (again hs′) → ⊥
+module _ (n : ℕ) (hs hs′ : List Header) (p : ℕ) (start : Piece → Then Value Piece LineEnd) (k : Piece → Move (Then Value Piece LineEnd) Kind Fault) where
+  never : (t u w : Bool) → moved {S = LineState} (taken n hs) (λ e. (e, hs)) (cond (t || u) (lifted one (moved {S = LineEnd} {A = Unit {0}} (λ _. pass end) (λ e. e) (cond t (keep cr) (cond u (give (tt {0})) (refuse (fault NewLine p)))))) (lifted other (cross (cond w (keep (some p)) (refuse (fault HeaderName p))) start k))) ≡ before (again hs′) → ⊥
   never true u w e = let z : _≡_ {A = ℕ} 0 1 = cc in omega arith
   never false true w e = let z : _≡_ {A = ℕ} 0 1 = cc in omega arith
   never false false true e = let z : _≡_ {A = ℕ} 0 1 = cc in omega arith
@@ -121,11 +122,11 @@ module _ {n : ℕ} {xs old new : List ℕ} {at i count : ℕ} (k : Kept n xs old
   pub kept-short : l ≡ lines.More → {r : Block} → r .end ≡ passes.More → r .count ≡ count → Told (block default n [] xs at) r old new
   kept-short h x y = tells (k .hs) (rw (goes h, x)) (y ∙ sym (k .size)) (k .full)
 
-  pub kept-bad : {z : Error} → l ≡ lines.Bad z → {r : Block} → r .end ≡ passes.Bad z → r .count ≡ count → Told (block default n [] xs at) r old new
+  pub kept-bad : {z : Fault} → l ≡ lines.Bad z → {r : Block} → r .end ≡ passes.Bad z → r .count ≡ count → Told (block default n [] xs at) r old new
   kept-bad h x y = tells (k .hs) (rw (goes h, x)) (y ∙ sym (k .size)) (k .full)
 
   module _ {g : Header} {q : ℕ} (h : l ≡ lines.Header g q) where
-    pub kept-full : n ≤ count → {r : Block} → r .end ≡ passes.Bad TooManyHeaders → r .count ≡ count → Told (block default n [] xs at) r old new
+    pub kept-full : n ≤ count → {r : Block} → r .end ≡ passes.Bad (fault TooManyHeaders (g .name .offset)) → r .count ≡ count → Told (block default n [] xs at) r old new
     kept-full u x y = tells (k .hs) (rw (goes h, k .size, le-ltb count n u, x)) (y ∙ sym (k .size)) (k .full)
 
     pub kept-more : count < n → {new′ : List ℕ} → new′ ≡ take (count * 4) new ++ numbers g ++ drop (count * 4 + 4) new → Kept n xs old new′ at q (count + 1)

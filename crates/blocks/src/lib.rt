@@ -7,6 +7,7 @@ ghost use Rattle.rules.specs.Rules.{default};
 ghost use Rattle.blocks.specs.Block.{block as blockAt, Told};
 use fields::Line;
 use parts::Error;
+use parts::Fault;
 use parts::Passed;
 
 // What reading the block comes to, and how many headers are in the slots.
@@ -37,13 +38,16 @@ pub fn header_block(s: &[u8], at: usize, slots: &mut [usize]) -> Block
         let line = fields::header_line(s, i);
         match line {
             Line::Header(header, next) => {
+                let name = header.name;
                 if n <= count {
                     return Block {
-                        end: Passed::Bad(Error::TooManyHeaders),
+                        end: Passed::Bad(Fault {
+                            error: Error::TooManyHeaders,
+                            position: name.offset,
+                        }),
                         count,
                     };
                 }
-                let name = header.name;
                 let value = header.value;
                 put(
                     slots,

@@ -1,6 +1,6 @@
 // The public calls: a request, a response, a block of headers alone and a chunk size line. They demand nothing of the caller, and
-// each contract says twice what the answer is: what the reader answers, and what that means in the grammar's words, by the rules that
-// the settings choose.
+// each contract says what the answer is: what the reader answers, what that means in the grammar's words, by the rules that the settings
+// choose, and what is true of an error's position.
 ghost use mathlib.Core.Path.{_≡_};
 ghost use mathlib.Core.List.{[]};
 ghost use Prim.Native.Nat.{_/_};
@@ -13,7 +13,8 @@ ghost use Rattle.heads.specs.Head.{Told};
 ghost use Rattle.heads.specs.Calls.{request as requestOf, response as responseOf};
 ghost use Rattle.chunks.specs.Chunk.{chunk, sizeOf};
 ghost use Rattle.agreement.specs.Known.{RequestSays, StatusSays, RequestInside, StatusInside};
-ghost use Rattle.agreement.specs.Promises.{HeadPromise, block-alone, says-nothing, lies-nowhere, ChunkPromise};
+ghost use Rattle.agreement.specs.Calls.{headersOf};
+ghost use Rattle.agreement.specs.Promises.{HeadPromise, FaultPromise, block-alone, says-nothing, lies-nowhere, ChunkPromise, SizeFaultPromise};
 use blocks::Block;
 use chunks::ChunkSize;
 use heads::RequestHead;
@@ -24,6 +25,7 @@ use rules::Settings;
 pub fn request(s: &[u8], slots: &mut [usize], settings: Settings) -> RequestHead
     ensures { λ r. ⌜ Told (requestOf (rulesOf settings) (length (now (slots .entry)) / 4) (now (s .entry))) (r .end) (r .line) (r .count) (now (slots .entry)) (now (slots .exit)) ⌝ }
     ensures { λ r. ⌜ HeadPromise (request-head (rulesOf settings)) RequestSays (RequestInside (rulesOf settings)) (now (s .entry)) (now (slots .entry)) (r .end) (r .line) (r .count) (now (slots .exit)) ⌝ }
+    ensures { λ r. ⌜ FaultPromise (rulesOf settings) (length (now (slots .entry)) / 4) (requestOf (rulesOf settings) (length (now (slots .entry)) / 4)) (now (s .entry)) (r .end) ⌝ }
 {
     heads::request(s, slots, settings)
 }
@@ -31,6 +33,7 @@ pub fn request(s: &[u8], slots: &mut [usize], settings: Settings) -> RequestHead
 pub fn response(s: &[u8], slots: &mut [usize]) -> ResponseHead
     ensures { λ r. ⌜ Told (responseOf default (length (now (slots .entry)) / 4) (now (s .entry))) (r .end) (r .line) (r .count) (now (slots .entry)) (now (slots .exit)) ⌝ }
     ensures { λ r. ⌜ HeadPromise (response-head default) StatusSays StatusInside (now (s .entry)) (now (slots .entry)) (r .end) (r .line) (r .count) (now (slots .exit)) ⌝ }
+    ensures { λ r. ⌜ FaultPromise default (length (now (slots .entry)) / 4) (responseOf default (length (now (slots .entry)) / 4)) (now (s .entry)) (r .end) ⌝ }
 {
     heads::response(s, slots)
 }
@@ -38,6 +41,7 @@ pub fn response(s: &[u8], slots: &mut [usize]) -> ResponseHead
 pub fn headers(s: &[u8], slots: &mut [usize]) -> Block
     ensures { λ r. ⌜ BlockTold (block default (length (now (slots .entry)) / 4) [] (now (s .entry)) 0) r (now (slots .entry)) (now (slots .exit)) ⌝ }
     ensures { λ r. ⌜ HeadPromise block-alone says-nothing lies-nowhere (now (s .entry)) (now (slots .entry)) (r .end) tt (r .count) (now (slots .exit)) ⌝ }
+    ensures { λ r. ⌜ FaultPromise default (length (now (slots .entry)) / 4) (headersOf (length (now (slots .entry)) / 4)) (now (s .entry)) (r .end) ⌝ }
 {
     heads::headers(s, slots)
 }
@@ -45,6 +49,7 @@ pub fn headers(s: &[u8], slots: &mut [usize]) -> Block
 pub fn chunk_size(s: &[u8]) -> ChunkSize
     ensures { λ r. ⌜ sizeOf r ≡ chunk default (now (s .entry)) ⌝ }
     ensures { λ r. ⌜ ChunkPromise (now (s .entry)) r ⌝ }
+    ensures { λ r. ⌜ SizeFaultPromise (now (s .entry)) r ⌝ }
 {
     chunks::chunk_size(s)
 }

@@ -71,29 +71,29 @@ pub data Chunk : Type 0 where
   digits : ℕ → ℕ → Chunk
   blanks extension cr : ℕ → Chunk
 
--- a chunk size line has one refusal
-abbrev pub behindStep : ℕ → ℕ → Move Chunk ℕ (Unit {0})
-behindStep v b =
+-- a chunk size line has one refusal, which tells the position of its byte
+abbrev pub behindStep : ℕ → ℕ → ℕ → Move Chunk ℕ ℕ
+behindStep v p b =
     cond (isBlank b) (keep (blanks v))
     (cond (eqb b 59) (keep (extension v))
-    (cond (eqb b 13) (keep (cr v)) (refuse tt)))
+    (cond (eqb b 13) (keep (cr v)) (refuse p)))
 
-abbrev pub chunkStep : Rules → Step Chunk ℕ (Unit {0})
+abbrev pub chunkStep : Rules → Step Chunk ℕ ℕ
 chunkStep r (digits k v) p b =
-    cond (isHexDigit b) (cond (ltb k 16) (keep (digits (k + 1) (v * 16 + worth b))) (refuse tt))
-    (cond (r .no-digit || not (eqb k 0)) (behindStep v b) (refuse tt))
-chunkStep r (blanks v) p b = behindStep v b
+    cond (isHexDigit b) (cond (ltb k 16) (keep (digits (k + 1) (v * 16 + worth b))) (refuse p))
+    (cond (r .no-digit || not (eqb k 0)) (behindStep v p b) (refuse p))
+chunkStep r (blanks v) p b = behindStep v p b
 chunkStep r (extension v) p b = cond (eqb b 13) (keep (cr v)) (keep (extension v))
-chunkStep r (cr v) p b = cond (eqb b 10) (give v) (refuse tt)
+chunkStep r (cr v) p b = cond (eqb b 10) (give v) (refuse p)
 
-abbrev pub chunk : Rules → List ℕ → Answer (Unit {0}) ℕ (Unit {0})
+abbrev pub chunk : Rules → List ℕ → Answer (Unit {0}) ℕ ℕ
 chunk r xs = reads (chunkStep r) (digits 0 0) xs 0
 
 -- the code's answer
-abbrev pub sizeOf : ChunkSize → Answer (Unit {0}) ℕ (Unit {0})
+abbrev pub sizeOf : ChunkSize → Answer (Unit {0}) ℕ ℕ
 sizeOf (sizes.Complete q v) = got v q
 sizeOf sizes.Incomplete = short tt
-sizeOf sizes.Invalid = bad tt
+sizeOf (sizes.Invalid p) = bad p
 
 -- a byte of an extension: any but CR
 unfoldable pub isExtension : ℕ → Bool
@@ -107,7 +107,7 @@ pub extension-stop : (b : ℕ) → b ≡ 13 → isExtension b ≡ false
 unfolding isExtension
 extension-stop b h = rw (eq-eqb b 13 h)
 
-abbrev pub from : Chunk → List ℕ → ℕ → Answer (Unit {0}) ℕ (Unit {0})
+abbrev pub from : Chunk → List ℕ → ℕ → Answer (Unit {0}) ℕ ℕ
 from c xs i = reads (chunkStep default) c xs i
 
 -- behind the CR
@@ -118,7 +118,7 @@ module _ (v : ℕ) (xs : List ℕ) (i : ℕ) where
   pub cr-lf : i < length xs → getD xs i 0 ≡ 10 → got v (i + 1) ≡ from (cr v) xs i
   cr-lf h b = rw (run-in (chunkStep default) (cr v) xs i h, b)
 
-  pub cr-bare : i < length xs → (getD xs i 0 ≡ 10 → ⊥) → bad tt ≡ from (cr v) xs i
+  pub cr-bare : i < length xs → (getD xs i 0 ≡ 10 → ⊥) → bad i ≡ from (cr v) xs i
   cr-bare h b = rw (run-in (chunkStep default) (cr v) xs i h, ne-eqb _ _ b)
 
   -- in the extension
@@ -130,7 +130,7 @@ module _ (v : ℕ) (xs : List ℕ) (i : ℕ) where
     pub extension-cut : i ≤ length xs → length xs ≤ r → short tt ≡ from (extension v) xs i
     extension-cut h l = rw (extension-on h, run-out (chunkStep default) (extension v) xs r l)
 
-    pub extension-end : i ≤ length xs → r < length xs → {z : Answer (Unit {0}) ℕ (Unit {0})} → z ≡ from (cr v) xs (r + 1) → z ≡ from (extension v) xs i
+    pub extension-end : i ≤ length xs → r < length xs → {z : Answer (Unit {0}) ℕ ℕ} → z ≡ from (cr v) xs (r + 1) → z ≡ from (extension v) xs i
     unfolding isExtension
     extension-end h l e = rw (extension-on h, run-in (chunkStep default) (extension v) xs r l, not-false (eqb (getD xs r 0) 13) (k .stop l)) e
 
@@ -143,14 +143,14 @@ module _ (v : ℕ) (xs : List ℕ) (i : ℕ) where
     blanks-cut h l = rw (blanks-on h, run-out (chunkStep default) (blanks v) xs r l)
 
     module _ (h : i ≤ length xs) (l : r < length xs) where
-      pub blanks-extension : getD xs r 0 ≡ 59 → {z : Answer (Unit {0}) ℕ (Unit {0})} → z ≡ from (extension v) xs (r + 1) → z ≡ from (blanks v) xs i
+      pub blanks-extension : getD xs r 0 ≡ 59 → {z : Answer (Unit {0}) ℕ ℕ} → z ≡ from (extension v) xs (r + 1) → z ≡ from (blanks v) xs i
       blanks-extension b e = rw (blanks-on h, run-in (chunkStep default) (blanks v) xs r l, k .stop l, eq-eqb _ _ b) e
 
       module _ (n : getD xs r 0 ≡ 59 → ⊥) where
-        pub blanks-cr : getD xs r 0 ≡ 13 → {z : Answer (Unit {0}) ℕ (Unit {0})} → z ≡ from (cr v) xs (r + 1) → z ≡ from (blanks v) xs i
+        pub blanks-cr : getD xs r 0 ≡ 13 → {z : Answer (Unit {0}) ℕ ℕ} → z ≡ from (cr v) xs (r + 1) → z ≡ from (blanks v) xs i
         blanks-cr b e = rw (blanks-on h, run-in (chunkStep default) (blanks v) xs r l, k .stop l, ne-eqb _ _ n, eq-eqb _ _ b) e
 
-        pub blanks-bad : (getD xs r 0 ≡ 13 → ⊥) → bad tt ≡ from (blanks v) xs i
+        pub blanks-bad : (getD xs r 0 ≡ 13 → ⊥) → bad r ≡ from (blanks v) xs i
         blanks-bad b = rw (blanks-on h, run-in (chunkStep default) (blanks v) xs r l, k .stop l, ne-eqb _ _ n, ne-eqb _ _ b)
 
 pub ruleset behinds = (cr-none, cr-lf, cr-bare, extension-cut, extension-end, blanks-cut, blanks-extension, blanks-cr, blanks-bad)
@@ -180,11 +180,11 @@ module _ {xs : List ℕ} {i v : ℕ} (c : Counted xs i v) where
   counted-out h = rw (c .runs, run-out (chunkStep default) (digits i v) xs i h)
 
   module _ (h : i < length xs) where
-    pub counted-behind : isHexDigit (getD xs i 0) ≡ false → {z : Answer (Unit {0}) ℕ (Unit {0})} → z ≡ from (blanks v) xs i → z ≡ chunk default xs
+    pub counted-behind : isHexDigit (getD xs i 0) ≡ false → {z : Answer (Unit {0}) ℕ ℕ} → z ≡ from (blanks v) xs i → z ≡ chunk default xs
     counted-behind d e = rw (c .runs, run-in (chunkStep default) (digits i v) xs i h, d) (e ∙ rw (run-in (chunkStep default) (blanks v) xs i h))
 
     module _ (d : isHexDigit (getD xs i 0) ≡ true) where
-      pub counted-full : 16 ≤ i → bad tt ≡ chunk default xs
+      pub counted-full : 16 ≤ i → bad i ≡ chunk default xs
       counted-full m = rw (c .runs, run-in (chunkStep default) (digits i v) xs i h, d, le-ltb i 16 m)
 
       pub counted-more : i < 16 → {w : ℕ} → Worth (getD xs i 0) w → Counted xs (i + 1) (v * 16 + w)

@@ -8,11 +8,11 @@ ghost use Rattle.octets.specs.Class.{isHexDigit};
 ghost use Rattle.rules.specs.Rules.{default};
 ghost use Rattle.chunks.specs.Chunk.{Worth, isExtension, chunk, sizeOf, from, cr, extension as inExtension, blanks as inBlanks};
 
-// The position behind the line and the size; or more is wanted; or a byte is wrong.
+// The position behind the line and the size; or more is wanted; or the byte at a position is wrong.
 pub enum ChunkSize {
     Complete(usize, u64),
     Incomplete,
-    Invalid,
+    Invalid(usize),
 }
 
 // The LF behind a CR.
@@ -25,7 +25,7 @@ fn line_feed(s: &[u8], at: usize, size: u64) -> ChunkSize
     if s[at] == 10 {
         ChunkSize::Complete(at + 1, size)
     } else {
-        ChunkSize::Invalid
+        ChunkSize::Invalid(at)
     }
 }
 
@@ -70,7 +70,7 @@ fn behind_digits(s: &[u8], at: usize, size: u64) -> ChunkSize
     if s[next] == 13 {
         line_feed(s, next + 1, size)
     } else {
-        ChunkSize::Invalid
+        ChunkSize::Invalid(next)
     }
 }
 
@@ -106,7 +106,7 @@ pub fn chunk_size(s: &[u8]) -> ChunkSize
             return behind_digits(s, i, size);
         }
         if 16 <= i {
-            return ChunkSize::Invalid;
+            return ChunkSize::Invalid(i);
         }
         size = size * 16 + worth_of(b);
         i += 1;

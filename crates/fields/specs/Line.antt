@@ -13,7 +13,7 @@ use Rattle.reader.specs.Answer.{Answer, got, short, bad, and, and-same, answer-
 use Rattle.reader.specs.Chain.{nothing, reads, ended, answer-ended}
 use Rattle.reader.specs.Branch.{Branch, fresh, branch, branch-one, branch-other, branch-none}
 use Rattle.octets.specs.Class.{isToken}
-use Rattle.parts.specs.declared.Error.{Error}
+use Rattle.parts.specs.declared.Fault.{Fault}
 use Rattle.parts.specs.declared.Error.the-variants.{HeaderName, HeaderValue, NewLine}
 use Rattle.parts.specs.declared.Piece.{Piece}
 use Rattle.rules.specs.Rules.{Rules, default}
@@ -33,7 +33,7 @@ abbrev pub named : Piece → Piece → Kind
 named n v = header (record { name = n; value = v })
 
 -- a name and a colon, a value, the line's end
-abbrev pub fieldStep : Rules → Step (Then Word Piece (Then Value Piece LineEnd)) Kind Error
+abbrev pub fieldStep : Rules → Step (Then Word Piece (Then Value Piece LineEnd)) Kind Fault
 fieldStep r =
     seq (wordStep isToken 58 HeaderName) (λ n. first blanks) (λ n.
     seq valueStep (λ v. begin) (λ v.
@@ -46,24 +46,24 @@ ends r b = eqb b 13 || (r .lf-alone && eqb b 10)
 abbrev pub LineState : Type 0
 LineState = Branch LineEnd (Then Word Piece (Then Value Piece LineEnd))
 
-abbrev pub lineStep : Rules → Step LineState Kind Error
+abbrev pub lineStep : Rules → Step LineState Kind Fault
 lineStep r = branch (ends r) (judged (λ _. pass end) (λ e. e) (lineEndStep r NewLine)) begin (fieldStep r) (first none)
 
-abbrev pub line : Rules → List ℕ → ℕ → Answer (Unit {0}) Kind Error
+abbrev pub line : Rules → List ℕ → ℕ → Answer (Unit {0}) Kind Fault
 line r xs at = reads (lineStep r) fresh xs at
 
 -- the code's answer
-abbrev pub lineOf : Line → Answer (Unit {0}) Kind Error
+abbrev pub lineOf : Line → Answer (Unit {0}) Kind Fault
 lineOf (lines.Header h q) = got (header h) q
 lineOf (lines.End q) = got end q
 lineOf lines.More = short tt
 lineOf (lines.Bad e) = bad e
 
 -- a line by its parts
-abbrev pub lastly : Kind → List ℕ → ℕ → Answer (Unit {0}) Kind Error
+abbrev pub lastly : Kind → List ℕ → ℕ → Answer (Unit {0}) Kind Fault
 lastly k xs q = ended k (lineEnd default HeaderValue xs q)
 
-abbrev pub onward : Piece → List ℕ → ℕ → Answer (Unit {0}) Kind Error
+abbrev pub onward : Piece → List ℕ → ℕ → Answer (Unit {0}) Kind Fault
 onward n xs q = and (value xs q) (λ v i. lastly (named n v) xs i)
 
 module _ (xs : List ℕ) where
@@ -81,11 +81,11 @@ module _ (xs : List ℕ) where
     pub line-none : length xs ≤ at → short tt ≡ line default xs at
     line-none h = sym (branch-none (ends default) (judged (λ _. pass end) (λ e. e) (lineEndStep default NewLine)) begin (fieldStep default) (first none) nothing xs at h)
 
-    pub line-ended : {z : Answer (Unit {0}) Kind Error} → at < length xs → ends default (getD xs at 0) ≡ true → z ≡ ended end (lineEnd default NewLine xs at) → z ≡ line default xs at
+    pub line-ended : {z : Answer (Unit {0}) Kind Fault} → at < length xs → ends default (getD xs at 0) ≡ true → z ≡ ended end (lineEnd default NewLine xs at) → z ≡ line default xs at
     line-ended h b e =
         e ∙ sym (branch-one (ends default) (judged (λ _. pass end) (λ e. e) (lineEndStep default NewLine)) begin (fieldStep default) (first none) nothing xs at h b ∙ answer-ended end (lineEndStep default NewLine) begin xs at)
 
-    pub line-field : {z : Answer (Unit {0}) Kind Error} → at < length xs → ends default (getD xs at 0) ≡ false → z ≡ and (word isToken 58 HeaderName xs at) (λ n q. onward n xs q) → z ≡ line default xs at
+    pub line-field : {z : Answer (Unit {0}) Kind Fault} → at < length xs → ends default (getD xs at 0) ≡ false → z ≡ and (word isToken 58 HeaderName xs at) (λ n q. onward n xs q) → z ≡ line default xs at
     line-field h b e =
         e ∙ sym (branch-other (ends default) (judged (λ _. pass end) (λ e. e) (lineEndStep default NewLine)) begin (fieldStep default) (first none) nothing xs at h b ∙ field-parts at)
 

@@ -6,6 +6,7 @@ ghost use Rattle.rules.specs.Rules.{default};
 ghost use Rattle.parts.specs.LineEnd.{lineEnd};
 ghost use Rattle.fields.specs.Line.{header as headerOf, end as endOf, line as lineAt, lastly, onward, lineOf};
 use parts::Error;
+use parts::Fault;
 use parts::Found;
 use parts::Passed;
 use parts::Piece;
@@ -20,7 +21,7 @@ pub enum Line {
     Header(Header, usize),
     End(usize),
     More,
-    Bad(Error),
+    Bad(Fault),
 }
 
 // The end of a header's line.

@@ -1,18 +1,23 @@
 // Heads in a row.
-use rows::RowRead;
-use rows::Stop;
+use rowread::RowRead;
+use rowread::Stop;
 use rules::Settings;
 
-// How many heads were read and the position behind them; 0 where that is all of the input, 1 where the next head is incomplete, a number
-// from 2 on for its error, and 10 where there is no room for one more end.
-fn told(row: RowRead, out: &mut [usize; 2]) -> u32 {
+// Into `out` go how many heads were read, the position behind them, and that of an error, else 0. The answer is 0 where all of the input was
+// read, 1 where the next head is incomplete, a number from 2 on for its error, and 10 where there is no room for one more end.
+fn told(row: RowRead, out: &mut [usize; 3]) -> u32 {
     let stop = row.stop;
     out[0] = row.count;
     out[1] = row.end;
+    out[2] = 0;
     match stop {
         Stop::End => 0,
         Stop::More => 1,
-        Stop::Bad(e) => headreader::error_number(e),
+        Stop::Bad(fault) => {
+            let error = fault.error;
+            out[2] = fault.position;
+            numbers::error_number(error)
+        }
         Stop::Full => 10,
     }
 }
@@ -22,7 +27,7 @@ pub extern "C" fn harness_requests(
     buf: &[u8],
     slots: &mut [usize],
     ends: &mut [usize],
-    out: &mut [usize; 2],
+    out: &mut [usize; 3],
     ascii_targets: bool,
 ) -> u32 {
     let settings = Settings { ascii_targets };
@@ -34,7 +39,7 @@ pub extern "C" fn harness_responses(
     buf: &[u8],
     slots: &mut [usize],
     ends: &mut [usize],
-    out: &mut [usize; 2],
+    out: &mut [usize; 3],
 ) -> u32 {
     told(rows::responses(buf, slots, ends), out)
 }

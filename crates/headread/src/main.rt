@@ -84,6 +84,6 @@ fn write(descriptor: i32, page: &Page, n: usize) {
 fn refuse_size() {
     io::write_all(
         STDERR_FILENO,
-        b"headread: what was found is longer than headread has room for; report this as a fault\n",
+        b"headread: what was found is longer than headread has room for; report this as a bug\n",
     );
 }

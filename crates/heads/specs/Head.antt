@@ -9,7 +9,7 @@ use Rattle.reader.specs.Judged.{pass, judged}
 use Rattle.reader.specs.Seq.{Then, first, seq}
 use Rattle.reader.specs.Answer.{Answer, got, short, bad, answer, retold, answer-judged, and, either, answer-seq, lapwise}
 use Rattle.reader.specs.Branch.{fresh}
-use Rattle.parts.specs.declared.Error.{Error}
+use Rattle.parts.specs.declared.Fault.{Fault}
 use Rattle.parts.specs.declared.Passed.{Passed}
 use Rattle.parts.specs.declared.Passed.the-variants as passes
 use Rattle.rules.specs.Rules.{Rules}
@@ -26,14 +26,14 @@ abbrev pub Known : Type 0 → Type 0
 Known K = K × List Header
 
 abbrev pub Heads : Type 0 → Type 0
-Heads K = Answer (Known K) (Known K) (Error × Known K)
+Heads K = Answer (Known K) (Known K) (Fault × Known K)
 
-module _ {K S : Type 0} (r : Rules) (n : ℕ) (lineStep : Step S K (Error × K)) (lineKnown : S → K) (start : S) where
+module _ {K S : Type 0} (r : Rules) (n : ℕ) (lineStep : Step S K (Fault × K)) (lineKnown : S → K) (start : S) where
   -- the block, behind a start line that told k
-  abbrev pub blockOn : K → Step (List Header × LineState) (Known K) (Error × Known K)
+  abbrev pub blockOn : K → Step (List Header × LineState) (Known K) (Fault × Known K)
   blockOn k = judged (λ hs. pass (k, hs)) (λ x. (x .0, (k, x .1))) (blockStep r n)
 
-  abbrev pub headStep : Step (Then S K (List Header × LineState)) (Known K) (Error × Known K)
+  abbrev pub headStep : Step (Then S K (List Header × LineState)) (Known K) (Fault × Known K)
   headStep = seq (judged pass (λ x. (x .0, (x .1, []))) lineStep) (λ _. ([], fresh)) blockOn
 
   abbrev pub headKnown : Then S K (List Header × LineState) → Known K
@@ -51,7 +51,7 @@ module _ {K : Type 0} where
   over k (bad x) = bad (x .0, (k, x .1))
 
   -- the start line's answer, and the head's from behind it
-  abbrev pub headed : Answer K K (Error × K) → (K → ℕ → Heads K) → Heads K
+  abbrev pub headed : Answer K K (Fault × K) → (K → ℕ → Heads K) → Heads K
   headed (got k q) next = next k q
   headed (short k) next = short (k, [])
   headed (bad x) next = bad (x .0, (x .1, []))
@@ -61,12 +61,12 @@ module _ {K : Type 0} where
   told-over k (short hs) = refl
   told-over k (bad x) = refl
 
-  told-headed : (a : Answer K K (Error × K)) (next : K → ℕ → Heads K) → and (retold (λ k. (k, [])) pass (λ x. (x .0, (x .1, []))) a) next ≡ headed a next
+  told-headed : (a : Answer K K (Fault × K)) (next : K → ℕ → Heads K) → and (retold (λ k. (k, [])) pass (λ x. (x .0, (x .1, []))) a) next ≡ headed a next
   told-headed (got k q) next = refl
   told-headed (short k) next = refl
   told-headed (bad x) next = refl
 
-module _ {K S : Type 0} (r : Rules) (n : ℕ) (lineStep : Step S K (Error × K)) (lineKnown : S → K) (start : S) (xs : List ℕ) where
+module _ {K S : Type 0} (r : Rules) (n : ℕ) (lineStep : Step S K (Fault × K)) (lineKnown : S → K) (start : S) (xs : List ℕ) where
   block-part : (k : K) (q : ℕ) → answer (λ c. (k, c .0)) (runAt (blockOn r n lineStep lineKnown start k) ([], fresh) xs q) ≡ over k (block r n [] xs q)
   block-part k q = answer-judged (λ hs. (k, hs)) (λ hs. pass (k, hs)) (λ x. (x .0, (k, x .1))) (lapwise (λ hs _. hs)) (blockStep r n) (drop q xs) ([], fresh) q ∙ told-over k (block r n [] xs q)
 
@@ -78,7 +78,7 @@ module _ {K S : Type 0} (r : Rules) (n : ℕ) (lineStep : Step S K (Error × K))
       ∙ told-headed (answer lineKnown (runAt lineStep start xs 0)) _
       ∙ headed-same (answer lineKnown (runAt lineStep start xs 0))
     where
-      headed-same : (a : Answer K K (Error × K)) → headed a (λ k q. answer (λ c. (k, c .0)) (runAt (blockOn r n lineStep lineKnown start k) ([], fresh) xs q)) ≡ headed a (λ k q. over k (block r n [] xs q))
+      headed-same : (a : Answer K K (Fault × K)) → headed a (λ k q. answer (λ c. (k, c .0)) (runAt (blockOn r n lineStep lineKnown start k) ([], fresh) xs q)) ≡ headed a (λ k q. over k (block r n [] xs q))
       headed-same (got k q) = block-part k q
       headed-same (short k) = refl
       headed-same (bad x) = refl
@@ -115,12 +115,12 @@ pub told-block : {K : Type 0} (k : K) {a : Blocks} {b : Block} {end : Passed} {c
 told-block k {a} {b} t x y = tells (blocks.given a) (rw (x, over-tell k (b .end) (blocks.given a), t .answer)) (y ∙ t .count) (t .slots)
 
 -- the ways of a head, by how its start line ended
-module _ {K : Type 0} {line : K} {e : Passed} {a : Answer K K (Error × K)} (h : tell e line ≡ a) where
+module _ {K : Type 0} {line : K} {e : Passed} {a : Answer K K (Fault × K)} (h : tell e line ≡ a) where
   pub head-on : {q : ℕ} → e ≡ passes.At q → (next : K → ℕ → Heads K) {end : Passed} {count : ℕ} {old new : List ℕ} → Told (next line q) end line count old new → Told (headed a next) end line count old new
   head-on m next t = rw (← h, m) t
 
   pub head-more : e ≡ passes.More → (next : K → ℕ → Heads K) (old : List ℕ) → Told (headed a next) passes.More line 0 old old
   head-more m next old = tells [] (rw (← h, m)) refl (filled-none old)
 
-  pub head-bad : {x : Error} → e ≡ passes.Bad x → (next : K → ℕ → Heads K) (old : List ℕ) → Told (headed a next) (passes.Bad x) line 0 old old
+  pub head-bad : {x : Fault} → e ≡ passes.Bad x → (next : K → ℕ → Heads K) (old : List ℕ) → Told (headed a next) (passes.Bad x) line 0 old old
   head-bad m next old = tells [] (rw (← h, m)) refl (filled-none old)

@@ -11,7 +11,7 @@ use borrow.Author.Tests.{eqb-true}
 use Rattle.reader.specs.Machine.{Move, gave, after, run}
 use Rattle.reader.specs.Tests.{split, both-true, never}
 use Rattle.exact.specs.Exact.{Part, Exact}
-use Rattle.parts.specs.declared.Error.{Error}
+use Rattle.parts.specs.declared.Fault.{Fault}
 use Rattle.rules.specs.Rules.{Rules}
 use Rattle.spaces.specs.Space.{behindCodeStep}
 
@@ -24,7 +24,7 @@ module _ (r : Rules) where
   sound-behind : (p : ℕ) (xs : List ℕ) (a : Unit {0}) (q : ℕ) → run (behindCodeStep r) tt p xs ≡ gave a q → Part (Behind r) p xs a q
   sound-behind p [] a q = λ e. never cc
   sound-behind p (b ∷ bs) a q =
-      let P : Move (Unit {0}) (Unit {0}) Error → Type 0 = λ u. after u p (λ s. run (behindCodeStep r) s (p + 1) bs) ≡ gave a q → Part (Behind r) p (b ∷ bs) a q in
+      let P : Move (Unit {0}) (Unit {0}) Fault → Type 0 = λ u. after u p (λ s. run (behindCodeStep r) s (p + 1) bs) ≡ gave a q → Part (Behind r) p (b ∷ bs) a q in
       split P (eqb b 32)
       (λ t e. let j : p + 1 ≡ q = cc in record { w = 32 ∷ []; rest = bs; whole = ap (λ y. y ∷ bs) (eqb-true b 32 t); place = sym j; holds = space })
       (λ _. split P (r .code-ends-line && eqb b 13)

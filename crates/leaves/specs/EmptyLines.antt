@@ -11,7 +11,7 @@ use borrow.Author.Tests.{eqb-true}
 use Rattle.reader.specs.Machine.{Move, keep, before, gave, after, run}
 use Rattle.reader.specs.Tests.{split, both-true, never}
 use Rattle.exact.specs.Exact.{Part, Exact}
-use Rattle.parts.specs.declared.Error.{Error}
+use Rattle.parts.specs.declared.Fault.{Fault}
 use Rattle.rules.specs.Rules.{Rules}
 use Rattle.grammar.specs.Message.{line-end, crlf, lf, empty-lines, none, more}
 use Rattle.parts.specs.EmptyLines.{EmptyLines, start, cr, emptyLinesStep}
@@ -29,10 +29,10 @@ pub record EmptiesAt (r : Rules) (p : ℕ) (w : List ℕ) (a : Unit {0}) (rest :
   pub stops : Stops r rest
 
 -- a line end at the start of a line, with the rules' fields as variables: to rewrite by one of them would rewrite the record
-passes-cr : (t u : Bool) → t ≡ true → _≡_ {A = Move EmptyLines (Unit {0}) Error} (cond (t && true) (keep cr) (cond (t && u && false) (keep start) (before tt))) (keep cr)
+passes-cr : (t u : Bool) → t ≡ true → _≡_ {A = Move EmptyLines (Unit {0}) Fault} (cond (t && true) (keep cr) (cond (t && u && false) (keep start) (before tt))) (keep cr)
 passes-cr t u h = rw h
 
-passes-lf : (t u : Bool) → t ≡ true → u ≡ true → _≡_ {A = Move EmptyLines (Unit {0}) Error} (cond (t && false) (keep cr) (cond (t && u && true) (keep start) (before tt))) (keep start)
+passes-lf : (t u : Bool) → t ≡ true → u ≡ true → _≡_ {A = Move EmptyLines (Unit {0}) Fault} (cond (t && false) (keep cr) (cond (t && u && true) (keep start) (before tt))) (keep start)
 passes-lf t u h g = rw (h, g)
 
 module _ (r : Rules) where
@@ -51,7 +51,7 @@ module _ (r : Rules) where
   }
 
   module _ (b : ℕ) (bs : List ℕ) (p q : ℕ) (ih : (s : EmptyLines) → run (emptyLinesStep r) s (p + 1) bs ≡ gave tt q → Left s (p + 1) bs q) where
-    abbrev Goes : EmptyLines → Move EmptyLines (Unit {0}) Error → Type 0
+    abbrev Goes : EmptyLines → Move EmptyLines (Unit {0}) Fault → Type 0
     Goes s u = after u p (λ s′. run (emptyLinesStep r) s′ (p + 1) bs) ≡ gave tt q → Left s p (b ∷ bs) q
 
     from-cr : Goes cr (emptyLinesStep r cr p b)

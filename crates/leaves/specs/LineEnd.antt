@@ -13,12 +13,13 @@ use Rattle.reader.specs.Tests.{split, both-true, never}
 use Rattle.exact.specs.Exact.{Relation, Part, Exact}
 use Rattle.rules.specs.Rules.{Rules}
 use Rattle.grammar.specs.Message.{line-end, crlf, lf}
+use Rattle.parts.specs.declared.Error.{Error}
 use Rattle.parts.specs.LineEnd.{begin, cr, lineEndStep}
 
 abbrev pub EndsAt : Rules → Relation (Unit {0})
 EndsAt r p w a rest = line-end r w
 
-module _ {E : Type 0} (r : Rules) (x : E) where
+module _ (r : Rules) (x : Error) where
   sound-cr : (p : ℕ) (xs : List ℕ) (q : ℕ) → run (lineEndStep r x) cr p xs ≡ gave tt q → (ys : List ℕ) × (xs ≡ 10 ∷ ys) × (q ≡ p + 1)
   sound-cr p [] q = λ e. never cc
   sound-cr p (b ∷ bs) q =

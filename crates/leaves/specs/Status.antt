@@ -11,6 +11,7 @@ use Rattle.reader.specs.Machine.{gave, after, run}
 use Rattle.reader.specs.Tests.{split, never}
 use Rattle.exact.specs.Exact.{Part, Exact}
 use Rattle.octets.specs.Class.{isDigit}
+use Rattle.parts.specs.declared.Error.{Error}
 use Rattle.spaces.specs.Space.{spaceStep}
 use Rattle.status.specs.Code.{none, one, two, onto, codeStep}
 use Rattle.leaves.specs.Rows.{In}
@@ -18,7 +19,7 @@ use Rattle.leaves.specs.Rows.{In}
 pub data Spaced (p : ℕ) : List ℕ → Unit {0} → List ℕ → Type 0 where
   space : {rest : List ℕ} → Spaced p (32 ∷ []) tt rest
 
-module _ {E : Type 0} (x : E) where
+module _ (x : Error) where
   sound-space : (p : ℕ) (xs : List ℕ) (a : Unit {0}) (q : ℕ) → run (spaceStep x) tt p xs ≡ gave a q → Part Spaced p xs a q
   sound-space p [] a q = λ e. never cc
   sound-space p (b ∷ bs) a q =

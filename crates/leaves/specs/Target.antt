@@ -13,7 +13,7 @@ use Rattle.reader.specs.Laws.{resume}
 use Rattle.reader.specs.Tests.{split, never}
 use Rattle.exact.specs.Exact.{Part, Exact}
 use Rattle.utf8.specs.Reader.{machine, whole, utf8}
-use Rattle.parts.specs.declared.Error.{Error}
+use Rattle.parts.specs.declared.Fault.{Fault}
 use Rattle.parts.specs.declared.Piece.{Piece}
 use Rattle.parts.specs.Answers.{piece}
 use Rattle.words.specs.Target.{Utf8, Target, none, some as inside, feed, targetStep, resume-none, resume-fed, anywhere}
@@ -47,7 +47,7 @@ module _ (class : ℕ → Bool) (space : class 32 ≡ false) where
   sound-inside : (o : ℕ) (xs : List ℕ) (u : Utf8) (p : ℕ) (a : Piece) (q : ℕ) → run (targetStep class) (inside o u) p xs ≡ gave a q → Left class o u p xs a q
   sound-inside o [] u p a q = λ e. never cc
   sound-inside o (b ∷ bs) u p a q =
-      let G : Move Target Piece Error → Type 0 = λ v. after v p (λ s. run (targetStep class) s (p + 1) bs) ≡ gave a q → Left class o u p (b ∷ bs) a q in
+      let G : Move Target Piece Fault → Type 0 = λ v. after v p (λ s. run (targetStep class) s (p + 1) bs) ≡ gave a q → Left class o u p (b ∷ bs) a q in
       let ih = sound-inside o bs (feed u p b) (p + 1) a q in
       split G (class b) (λ h e. left-more o u p b bs a q h (ih e))
       (λ _. split G (eqb b 32)

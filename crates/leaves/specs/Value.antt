@@ -10,7 +10,7 @@ use Rattle.reader.specs.Machine.{Move, gave, after, run}
 use Rattle.reader.specs.Tests.{split, never}
 use Rattle.exact.specs.Exact.{Part, Exact}
 use Rattle.octets.specs.Class.{isBlank, isTarget, isValue}
-use Rattle.parts.specs.declared.Error.{Error}
+use Rattle.parts.specs.declared.Fault.{Fault}
 use Rattle.parts.specs.declared.Piece.{Piece}
 use Rattle.parts.specs.Answers.{piece}
 use Rattle.values.specs.Value.{Value, blanks, inside, valueStep, blank-value}
@@ -95,7 +95,7 @@ from-solid p b {rest = rest} d (solid-tail {m = m} {t = t} {c = c} k e u) s =
 sound-value : (xs : List ℕ) (p : ℕ) (a : Piece) (q : ℕ) → run valueStep blanks p xs ≡ gave a q → Part Valued p xs a q
 sound-value [] p a q = λ h. never cc
 sound-value (b ∷ bs) p a q =
-    let G : Move Value Piece Error → Type 0 = λ u. after u p (λ s. run valueStep s (p + 1) bs) ≡ gave a q → Part Valued p (b ∷ bs) a q in
+    let G : Move Value Piece Fault → Type 0 = λ u. after u p (λ s. run valueStep s (p + 1) bs) ≡ gave a q → Part Valued p (b ∷ bs) a q in
     let ih = sound-value bs (p + 1) a q in
     split G (isBlank b)
     (λ h g. let P = ih g in record { w = b ∷ P .w; rest = P .rest; whole = ap (λ y. b ∷ y) (P .whole); place = omega (arith, P .place); holds = valued-more p b h (P .holds) })

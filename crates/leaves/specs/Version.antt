@@ -10,7 +10,7 @@ use borrow.Author.Tests.{eqb-true, eq-eqb}
 use Rattle.reader.specs.Machine.{Run, gave, give, after, run}
 use Rattle.reader.specs.Tests.{split, never}
 use Rattle.exact.specs.Exact.{Relation, Part, Exact}
-use Rattle.parts.specs.declared.Error.{Error}
+use Rattle.parts.specs.declared.Fault.{Fault}
 use Rattle.versions.specs.Version.{name, versionStep}
 
 -- what is left of a name, and a digit
@@ -28,14 +28,14 @@ digit-more one-digit = one-digit
 sound-version : (es xs : List ℕ) (p a q : ℕ) → run versionStep es p xs ≡ gave a q → Part (DigitAt es) p xs a q
 sound-version es [] p a q = λ e. never cc
 sound-version [] (b ∷ bs) p a q =
-    let k : List ℕ → Run (List ℕ) ℕ Error = λ s. run versionStep s (p + 1) bs in
+    let k : List ℕ → Run (List ℕ) ℕ Fault = λ s. run versionStep s (p + 1) bs in
     split (λ u. after u p k ≡ gave a q → Part (DigitAt []) p (b ∷ bs) a q) (eqb b 48)
     (λ z e. let i : 0 ≡ a = cc in let j : p + 1 ≡ q = cc in record { w = b ∷ []; rest = bs; whole = refl; place = omega arith; holds = rw (eqb-true b 48 z, ← i) zero-digit })
     (λ _. split (λ u. after u p k ≡ gave a q → Part (DigitAt []) p (b ∷ bs) a q) (eqb b 49)
     (λ z e. let i : 1 ≡ a = cc in let j : p + 1 ≡ q = cc in record { w = b ∷ []; rest = bs; whole = refl; place = omega arith; holds = rw (eqb-true b 49 z, ← i) one-digit })
     (λ z e. never cc))
 sound-version (c ∷ es) (b ∷ bs) p a q =
-    let k : List ℕ → Run (List ℕ) ℕ Error = λ s. run versionStep s (p + 1) bs in
+    let k : List ℕ → Run (List ℕ) ℕ Fault = λ s. run versionStep s (p + 1) bs in
     let ih = sound-version es bs (p + 1) a q in
     split (λ u. after u p k ≡ gave a q → Part (DigitAt (c ∷ es)) p (b ∷ bs) a q) (eqb b c)
     (λ z e. let P = ih e in record { w = b ∷ P .w; rest = P .rest; whole = ap (λ l. b ∷ l) (P .whole); place = omega (arith, P .place); holds = rw (eqb-true b c z) (digit-more (P .holds)) })

@@ -11,6 +11,8 @@ use borrow.Author.Tests.{eqb-true, eq-eqb}
 use Rattle.reader.specs.Machine.{Run, gave, after, run}
 use Rattle.reader.specs.Tests.{split, never}
 use Rattle.exact.specs.Exact.{Part, Exact}
+use Rattle.parts.specs.declared.Error.{Error}
+use Rattle.parts.specs.declared.Fault.{Fault}
 use Rattle.parts.specs.declared.Piece.{Piece}
 use Rattle.parts.specs.Answers.{piece}
 use Rattle.words.specs.Word.{Word, none, some as inside, wordStep}
@@ -24,7 +26,7 @@ pub record Worded (class : ℕ → Bool) (end : ℕ) (p : ℕ) (w : List ℕ) (a
   pub whole : w ≡ v ++ (end ∷ [])
   pub place : a ≡ piece p (p + length v)
 
-module _ {E : Type 0} (class : ℕ → Bool) (end : ℕ) (x : E) (outside : class end ≡ false) where
+module _ (class : ℕ → Bool) (end : ℕ) (x : Error) (outside : class end ≡ false) where
   -- the rest of a word that began at o
   record Left (o p : ℕ) (xs : List ℕ) (a : Piece) (q : ℕ) : Type 0 where
     v : List ℕ
@@ -42,7 +44,7 @@ module _ {E : Type 0} (class : ℕ → Bool) (end : ℕ) (x : E) (outside : clas
   sound-inside : (o : ℕ) (xs : List ℕ) (p : ℕ) (a : Piece) (q : ℕ) → run (wordStep class end x) (inside o) p xs ≡ gave a q → Left o p xs a q
   sound-inside o [] p a q = λ e. never cc
   sound-inside o (b ∷ bs) p a q =
-      let k : Word → Run Word Piece E = λ s. run (wordStep class end x) s (p + 1) bs in
+      let k : Word → Run Word Piece Fault = λ s. run (wordStep class end x) s (p + 1) bs in
       let ih = sound-inside o bs (p + 1) a q in
       split (λ u. after u p k ≡ gave a q → Left o p (b ∷ bs) a q) (class b) (λ h e. left-more o p b bs a q h (ih e))
       (λ _. split (λ u. after u p k ≡ gave a q → Left o p (b ∷ bs) a q) (eqb b end)

@@ -141,7 +141,7 @@ in-default {r} t (chunked.chunk-line.line k d) = chunked.chunk-line.line (size k
 abbrev seventeen : List ℕ
 seventeen = ascii "00000000000000000\r\n"
 
-refuses : run (chunkStep default) (digits 0 0) 0 (seventeen ++ []) ≡ refused tt 16
+refuses : run (chunkStep default) (digits 0 0) 0 (seventeen ++ []) ≡ refused 16 16
 unfolding isHexDigit isDigit within
 refuses = refl
 

@@ -13,7 +13,7 @@ use Rattle.reader.specs.Branch.{fresh}
 use Rattle.reader.specs.Tests.{split}
 use Rattle.reader.specs.Later.{Later, same, waited, later}
 use Rattle.rules.specs.Rules.{Rules}
-use Rattle.parts.specs.declared.Error.{Error}
+use Rattle.parts.specs.declared.Fault.{Fault}
 use Rattle.fields.specs.declared.Header.{Header}
 use Rattle.fields.specs.Line.{Kind, header, end, lineStep, line}
 use Rattle.blocks.specs.Slots.{numbers, flat, filled, length-flat}
@@ -32,7 +32,7 @@ starts-more : (hs all : List Header) (h : Header) → Starts hs all → Starts h
 starts-more hs all h s = record { more = s .more ++ (h ∷ []); whole = ap (λ y. y ++ (h ∷ [])) (s .whole) ∙ append-assoc hs (s .more) (h ∷ []) }
 
 -- what a block goes on to after a line
-abbrev after-line : Rules → ℕ → List ℕ → List Header → Answer (Unit {0}) Kind Error → List Header
+abbrev after-line : Rules → ℕ → List ℕ → List Header → Answer (Unit {0}) Kind Fault → List Header
 after-line r n z hs a = given (rounds (retold (λ _. hs) (taken n hs) (λ e. (e, hs)) a) (λ hs′ q. block r n hs′ z q))
 
 module _ (r : Rules) (n : ℕ) where
@@ -40,7 +40,7 @@ module _ (r : Rules) (n : ℕ) where
   block-keeps z hs p = given-all z r n (Starts hs) (λ ks h i q e l s. starts-more hs ks h s) hs p (starts-refl hs)
 
   module _ (xs ys : List ℕ) where
-    grows-line : (hs : List Header) (p : ℕ) → ((h : Header) (q : ℕ) → p + 1 ≤ q → q ≤ length xs → Starts (given (block r n (hs ++ (h ∷ [])) xs q)) (given (block r n (hs ++ (h ∷ [])) (xs ++ ys) q))) → {a b : Answer (Unit {0}) Kind Error} → line r xs p ≡ a → Later a b → Starts hs (after-line r n (xs ++ ys) hs b) → Starts (after-line r n xs hs a) (after-line r n (xs ++ ys) hs b)
+    grows-line : (hs : List Header) (p : ℕ) → ((h : Header) (q : ℕ) → p + 1 ≤ q → q ≤ length xs → Starts (given (block r n (hs ++ (h ∷ [])) xs q)) (given (block r n (hs ++ (h ∷ [])) (xs ++ ys) q))) → {a b : Answer (Unit {0}) Kind Fault} → line r xs p ≡ a → Later a b → Starts hs (after-line r n (xs ++ ys) hs b) → Starts (after-line r n xs hs a) (after-line r n (xs ++ ys) hs b)
     grows-line hs p ih e (same {a = short u}) w = starts-refl hs
     grows-line hs p ih e (same {a = bad x}) w = starts-refl hs
     grows-line hs p ih e (same {a = got end q}) w = starts-refl hs

@@ -2,6 +2,7 @@ pub mod Statements
 pub mod Lines
 pub mod Blocks
 pub mod Stays
+pub mod Where
 pub mod SoFar
 pub mod MoreSlots
 pub mod Derivation

@@ -12,8 +12,9 @@ use Rattle.reader.specs.Seq.{first}
 use Rattle.reader.specs.Answer.{Answer, got, short, bad, answer, verdict, retold, rounds}
 use Rattle.reader.specs.Tests.{split}
 use Rattle.rules.specs.Rules.{Rules, default}
-use Rattle.parts.specs.declared.Error.{Error}
 use Rattle.parts.specs.declared.Error.the-variants.{TooManyHeaders}
+use Rattle.parts.specs.declared.Fault.{Fault}
+use Rattle.parts.specs.Answers.{fault}
 use Rattle.parts.specs.declared.Passed.{Passed}
 use Rattle.parts.specs.EmptyLines.{start}
 use Rattle.fields.specs.declared.Header.{Header}
@@ -40,14 +41,14 @@ use Rattle.onereading.specs.Stays.{told-same, first-headers}
 -- the second answer has more room: it is the same, unless the first had too little
 data Roomier : Blocks → Blocks → Type 0 where
   same : {a : Blocks} → Roomier a a
-  full : {hs : List Header} {b : Blocks} → Starts hs (blocks.given b) → Roomier (bad (TooManyHeaders, hs)) b
+  full : {p : ℕ} {hs : List Header} {b : Blocks} → Starts hs (blocks.given b) → Roomier (bad (fault TooManyHeaders p, hs)) b
 
 module _ (r : Rules) (n n′ : ℕ) (h : n ≤ n′) (xs : List ℕ) where
   -- the block behind a line, with n slots
-  abbrev behind : ℕ → List Header → Answer (Unit {0}) Kind Error → Blocks
+  abbrev behind : ℕ → List Header → Answer (Unit {0}) Kind Fault → Blocks
   behind n hs a = rounds (retold (λ _. hs) (taken n hs) (λ e. (e, hs)) a) (λ hs′ q. block r n hs′ xs q)
 
-  room-line : (hs : List Header) (p : ℕ) → ((g : Header) (q : ℕ) → p + 1 ≤ q → q ≤ length xs → Roomier (block r n (hs ++ (g ∷ [])) xs q) (block r n′ (hs ++ (g ∷ [])) xs q)) → (a : Answer (Unit {0}) Kind Error) → line r xs p ≡ a → Starts hs (blocks.given (behind n′ hs a)) → Roomier (behind n hs a) (behind n′ hs a)
+  room-line : (hs : List Header) (p : ℕ) → ((g : Header) (q : ℕ) → p + 1 ≤ q → q ≤ length xs → Roomier (block r n (hs ++ (g ∷ [])) xs q) (block r n′ (hs ++ (g ∷ [])) xs q)) → (a : Answer (Unit {0}) Kind Fault) → line r xs p ≡ a → Starts hs (blocks.given (behind n′ hs a)) → Roomier (behind n hs a) (behind n′ hs a)
   room-line hs p ih (short u) e w = same
   room-line hs p ih (bad x) e w = same
   room-line hs p ih (got end q) e w = same
@@ -73,7 +74,7 @@ module _ {K : Type 0} where
   -- the same of heads
   data Wider : Heads K → Heads K → Type 0 where
     same : {a : Heads K} → Wider a a
-    full : {k : K} {hs : List Header} {b : Heads K} → knownOf b .0 ≡ k → Starts hs (given b) → Wider (bad (TooManyHeaders, (k, hs))) b
+    full : {p : ℕ} {k : K} {hs : List Header} {b : Heads K} → knownOf b .0 ≡ k → Starts hs (given b) → Wider (bad (fault TooManyHeaders p, (k, hs))) b
 
   over-known : (k : K) (b : Blocks) → knownOf (over k b) .0 ≡ k
   over-known k (got hs q) = refl
@@ -84,20 +85,20 @@ module _ {K : Type 0} where
   over-wider k Roomier.same = Wider.same
   over-wider k (Roomier.full {hs = hs} {b = b} s) = Wider.full (over-known k b) (subst (Starts hs) (sym (given-over k b)) s)
 
-  headed-wider : {f g : K → ℕ → Heads K} (a : Answer K K (Error × K)) → ((k : K) (q : ℕ) → Wider (f k q) (g k q)) → Wider (headed a f) (headed a g)
+  headed-wider : {f g : K → ℕ → Heads K} (a : Answer K K (Fault × K)) → ((k : K) (q : ℕ) → Wider (f k q) (g k q)) → Wider (headed a f) (headed a g)
   headed-wider (got k q) h = h k q
   headed-wider (short k) h = Wider.same
   headed-wider (bad x) h = Wider.same
 
   wider-told : {a b : Heads K} {end end′ : Passed} {line line′ : K} {count count′ : ℕ} {old old′ new new′ : List ℕ} → Wider a b → Told a end line count old new → Told b end′ line′ count′ old′ new′ → MoreSlots end end′ line line′ count count′ old′ new new′
   wider-told (Wider.same {a = a}) T U = let u = told-same T U in record { enough = λ _. (u .0, u .2, u .3); known = u .1; given = first-headers (starts-refl (given a)) T U }
-  wider-told {end = p} {line = line} (Wider.full {k = k} {hs = hs} e s) T U = record {
-    enough = λ x. absurd (x (told-bad p line k hs hs TooManyHeaders (T .answer) .0));
+  wider-told {end = stop} {line = line} (Wider.full {p = p} {k = k} {hs = hs} e s) T U = record {
+    enough = λ x. absurd (x p (told-bad stop line k hs hs (fault TooManyHeaders p) (T .answer) .0));
     known = sym (told-line U) ∙ e ∙ told-line T;
     given = first-headers s T U;
   }
 
-module _ (r : Rules) (n n′ : ℕ) (h : n ≤ n′) {K S : Type 0} (m : Step S K (Error × K)) (known : S → K) (s : S) where
+module _ (r : Rules) (n n′ : ℕ) (h : n ≤ n′) {K S : Type 0} (m : Step S K (Fault × K)) (known : S → K) (s : S) where
   head-wider : (xs : List ℕ) → Wider (heads.head r n m known s xs) (heads.head r n′ m known s xs)
   head-wider xs =
       subst (λ y. Wider y (heads.head r n′ m known s xs)) (sym (head-parts r n m known s xs))

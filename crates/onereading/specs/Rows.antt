@@ -13,9 +13,9 @@ use Rattle.lengths.specs.Lengths.{head-long}
 use Rattle.heads.specs.Head.{Heads}
 use Rattle.heads.specs.Calls.{request, response}
 use Rattle.agreement.specs.Starts.{Fixed}
-use Rattle.rows.specs.declared.Stop.{Stop}
-use Rattle.rows.specs.declared.Stop.the-variants as stops
-use Rattle.rows.specs.Row.{Row, none, more, Fitting, Stopped, all-read, full, unfinished, wrong}
+use Rattle.rowread.specs.declared.Stop.{Stop}
+use Rattle.rowread.specs.declared.Stop.the-variants as stops
+use Rattle.rowread.specs.Row.{Row, none, more, Fitting, Stopped, all-read, full, unfinished, wrong}
 use Rattle.onereading.specs.Statements.{OneHead, OneRow, ReadsRow, ReadsFirst}
 use Rattle.onereading.specs.Derivation.{same-rest, one-request, one-response}
 
@@ -73,14 +73,14 @@ module _ {L : Type 0} {Head : List ℕ → L → List Field → Type 0} (long : 
   fitting-behind n (h ∷ hs) gs f = fitting-behind n hs gs (f .1)
 
   -- where a row of heads that fit is left, the reading stopped at the end of all of it
-  stopped-end : {K : Type 0} {read : ℕ → List ℕ → Heads K} {n : ℕ} {rest : List ℕ} {count room : ℕ} {left slots : List ℕ} {x : Stop} → Stopped Head read n rest count room left x slots → {at : ℕ} {hs : List (L × List Field)} {es : List ℕ} → Row Head at rest hs es → Fitting n hs → count + length hs ≤ room → (x ≡ stops.End) × (rest ≡ [])
+  stopped-end : {K : Type 0} {read : ℕ → List ℕ → Heads K} {n stop : ℕ} {rest : List ℕ} {count room : ℕ} {left slots : List ℕ} {x : Stop} → Stopped Head read n stop rest count room left x slots → {at : ℕ} {hs : List (L × List Field)} {es : List ℕ} → Row Head at rest hs es → Fitting n hs → count + length hs ≤ room → (x ≡ stops.End) × (rest ≡ [])
   stopped-end (all-read e) r f h = (refl, e)
   stopped-end (full e l) none f h = absurd (omega (arith, l))
   stopped-end (full e l) (more d k) f h = absurd (omega (arith, e, h))
   stopped-end (unfinished a y l m) none f h = absurd (omega (arith, l))
   stopped-end (unfinished a y l m) (more {w = w} {v = v} {l = k} {fs = fs} d q) f h = absurd (y w v k fs refl d)
-  stopped-end (wrong a y z l m) none f h = absurd (omega (arith, l))
-  stopped-end (wrong a y z l m) (more {w = w} {v = v} {l = k} {fs = fs} d q) f h = absurd (y [] w v k fs (append-nil (w ++ v)) d (f .0))
+  stopped-end (wrong a i y z l m) none f h = absurd (omega (arith, l))
+  stopped-end (wrong a i y z l m) (more {w = w} {v = v} {l = k} {fs = fs} d q) f h = absurd (y [] w v k fs (append-nil (w ++ v)) d (f .0))
 
   row-read : {K : Type 0} (read : ℕ → List ℕ → Heads K) → ReadsRow Head read
   row-read read n s slots old r slots′ new P hs es q f h =
@@ -109,11 +109,11 @@ module _ {L : Type 0} {Head : List ℕ → L → List Field → Type 0} (long : 
       beside-more (ap (λ y. (y, fs)) (u .1) ∙ ap (λ y. (l′, y)) (u .2)) (sym m) (beside k rest (subst (λ y. Row Head y v′ hs es) m k′) t (same-rest w (v ++ rest) w′ (v′ ++ t) f (u .0)))
 
   -- the reading does not stop before a head that fits, where there is room for its end
-  never-before : {K : Type 0} {read : ℕ → List ℕ → Heads K} {n : ℕ} {rest : List ℕ} {count room : ℕ} {left slots : List ℕ} {x : Stop} → Stopped Head read n rest count room left x slots → (w v : List ℕ) (l : L) (fs : List Field) → Head w l fs → rest ≡ w ++ v → length fs ≤ n → count + 1 ≤ room → ⊥
+  never-before : {K : Type 0} {read : ℕ → List ℕ → Heads K} {n stop : ℕ} {rest : List ℕ} {count room : ℕ} {left slots : List ℕ} {x : Stop} → Stopped Head read n stop rest count room left x slots → (w v : List ℕ) (l : L) (fs : List Field) → Head w l fs → rest ≡ w ++ v → length fs ≤ n → count + 1 ≤ room → ⊥
   never-before (all-read e) w v l fs d z f h = omega (arith, ap length (sym z ∙ e), length-append w v, long w l fs d)
   never-before (full e i) w v l fs d z f h = omega (arith, e, h)
   never-before (unfinished a y i m) w v l fs d z f h = y w v l fs z d
-  never-before {rest = rest} (wrong a y x i m) w v l fs d z f h = y [] w v l fs (append-nil rest ∙ z) d f
+  never-before {rest = rest} (wrong a k y x i m) w v l fs d z f h = y [] w v l fs (append-nil rest ∙ z) d f
 
   pub row-first : {K : Type 0} (read : ℕ → List ℕ → Heads K) → ReadsFirst Head read
   row-first read n v t slots old r slots′ new P hs es q f h = by (beside (P .row) (P .rest) q t (sym (P .whole)))

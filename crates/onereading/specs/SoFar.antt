@@ -91,7 +91,7 @@ module _ {L K : Type 0} {Head : List ℕ → L → List Field → Type 0} {Says 
       where
         by : (b : Bool) → ltb (length old / 4) (length fs) ≡ b → Agrees s line l × ((more : List Field) × (fs ≡ fieldsIn s count new ++ more))
         by false f = let A = Q .accepts w t l fs e h (ltb-false (length old / 4) (length fs) f) in shown fs l (A .1) [] (append-nil (fieldsIn (s ++ u) count′ new′) ∙ A .2)
-        by true f = let A = Q .too-many w t l fs e h (ltb-true (length old / 4) (length fs) f) in shown fs l (A .1) (drop (length old / 4) fs) (ap (λ y. y ++ drop (length old / 4) fs) (A .2) ∙ take-append-drop (length old / 4) fs)
+        by true f = let A = Q .too-many w t l fs e h (ltb-true (length old / 4) (length fs) f) in shown fs l (A .2) (drop (length old / 4) fs) (ap (λ y. y ++ drop (length old / 4) fs) (A .3) ∙ take-append-drop (length old / 4) fs)
 
 piece-agrees : (Such : List ℕ → Type 0) (s u : List ℕ) (a b : KnownPiece) (w : List ℕ) → Inside Such s a → SamePiece a b → Holds (s ++ u) b w → PieceAgrees s a w
 piece-agrees Such s u (pieces.Is a) b w i e h = sym (held-still s u (a .offset) (a .length) (i .0)) ∙ subst (λ y. Holds (s ++ u) y w) e h

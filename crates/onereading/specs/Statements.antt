@@ -1,15 +1,16 @@
 -- One reading only: what is said of every kind of head, and nothing else. docs/PROVED.md names the theorem for each kind.
 -- Assumes nothing.
-use Prim.Native.Nat.{ℕ, _*_, _≤_, _<_}
+use Prim.Native.Nat.{ℕ, _+_, _*_, _≤_, _<_}
 use mathlib.Core.Path.{_≡_}
 use mathlib.Core.List.{List, _++_}
 use lib.ListN.{length, take, drop}
-use Rattle.rules.specs.Rules.{default}
+use Rattle.rules.specs.Rules.{Rules, default}
 use Rattle.grammar.specs.Fields.{Field}
 use Rattle.grammar.specs.Message as grammar
 use Rattle.grammar.specs.Chunked.{chunk-line}
-use Rattle.parts.specs.declared.Error.{Error}
 use Rattle.parts.specs.declared.Error.the-variants.{TooManyHeaders}
+use Rattle.parts.specs.declared.Fault.{Fault}
+use Rattle.parts.specs.Answers.{fault}
 use Rattle.parts.specs.declared.Passed.{Passed}
 use Rattle.parts.specs.declared.Passed.the-variants.{At, More, Bad}
 use Rattle.startline.specs.declared.KnownPiece.{KnownPiece}
@@ -23,11 +24,12 @@ use Rattle.chunks.specs.declared.ChunkSize.{ChunkSize}
 use Rattle.chunks.specs.declared.ChunkSize.the-variants as sizes
 use Rattle.agreement.specs.Places.{held}
 use Rattle.agreement.specs.Known.{fieldsIn}
+use Rattle.agreement.specs.Promises.{FaultAt}
 use Rattle.writer.specs.declared.Writing.{Writing}
 use Rattle.writer.specs.declared.Writing.the-variants.{Written, Needs}
-use Rattle.rows.specs.declared.RowRead.{RowRead}
-use Rattle.rows.specs.declared.Stop.the-variants as stops
-use Rattle.rows.specs.Row.{Row, Fitting, RowPromise}
+use Rattle.rowread.specs.declared.RowRead.{RowRead}
+use Rattle.rowread.specs.declared.Stop.the-variants as stops
+use Rattle.rowread.specs.Row.{Row, Fitting, RowPromise}
 
 -- What was known of a part of a start line is unchanged
 abbrev pub SamePiece : KnownPiece → KnownPiece → Type 0
@@ -55,11 +57,28 @@ NoLine k l = Unit {0}
 -- An answer never changes when more bytes arrive: what a call told on s, and what it told (with primes) on s and more bytes, over as many
 -- slots, which hold anything, such as what the first call left in them. Same is SameRequest, SameStatus or NoLine.
 pub record HeadStays {K : Type 0} (Same : K → K → Type 0) (end end′ : Passed) (line line′ : K) (count count′ : ℕ) (old′ new new′ : List ℕ) : Type 0 where
-  -- complete stays complete with the same end and fields, and an error the same error, with the same fields, count and slots
+  -- complete stays complete with the same end and fields, and an error the same error at the same position, with the same fields, count and slots
   pub decided : (end ≡ More → ⊥) → (end′ ≡ end) × (line′ ≡ line) × (count′ ≡ count) × (new′ ≡ take (count * 4) new ++ drop (count * 4) old′)
   -- what was known before the end was reached is unchanged
   pub known : Same line line′
   pub headers : (count ≤ count′) × (take (count * 4) new′ ≡ take (count * 4) new)
+
+-- An error says where it lies: a call on s ended in the error x, and one was made (with primes) on the bytes z with the same settings, over as many
+-- slots, which hold anything
+pub record SaysWhere {K : Type 0} (r : Rules) (s : List ℕ) (x : Fault) (line : K) (count : ℕ) (new : List ℕ) (z : List ℕ) (end′ : Passed) (line′ : K) (count′ : ℕ) (old′ new′ : List ℕ) : Type 0 where
+  -- where z is the bytes before its position, or fewer, that call is incomplete
+  pub before : (k : ℕ) → k ≤ x .position → z ≡ take k s → end′ ≡ More
+  -- any error but TooManyHeaders: where z has the byte at it too, and any bytes u behind that, it ends in this error, with the same fields, count and slots
+  pub there : (x .error ≡ TooManyHeaders → ⊥) → (u : List ℕ) → z ≡ take (x .position + 1) s ++ u → (end′ ≡ Bad x) × (line′ ≡ line) × (count′ ≡ count) × (new′ ≡ take (count * 4) new ++ drop (count * 4) old′)
+  -- TooManyHeaders: where z is the bytes before the header that had no slot, that call has told the same fields, count and slots
+  pub full : x .error ≡ TooManyHeaders → z ≡ take (x .position) s → (line′ ≡ line) × (count′ ≡ count) × (new′ ≡ take (count * 4) new ++ drop (count * 4) old′)
+  -- and where z has an empty line e in place of that header, it is complete with them
+  pub begins : x .error ≡ TooManyHeaders → (e : List ℕ) → grammar.line-end r e → z ≡ take (x .position) s ++ e → (end′ ≡ At (x .position + length e)) × (line′ ≡ line) × (count′ ≡ count) × (new′ ≡ take (count * 4) new ++ drop (count * 4) old′)
+
+-- the same of the error of a chunk size line, at p
+pub record SizeSaysWhere (s : List ℕ) (p : ℕ) (z : List ℕ) (r′ : ChunkSize) : Type 0 where
+  pub before : (k : ℕ) → k ≤ p → z ≡ take k s → r′ ≡ sizes.Incomplete
+  pub there : (u : List ℕ) → z ≡ take (p + 1) s ++ u → r′ ≡ sizes.Invalid p
 
 -- What is told before the end, or with TooManyHeaders, is true of every head that these bytes may still become, whatever bytes u follow: of
 -- its start line what is known (Agrees), and of its fields those in the slots, which are its first. Behind any other error none can come.
@@ -88,7 +107,7 @@ pub record StatusAgrees (s : List ℕ) (k : StatusLine) (l : grammar.StatusLine)
 -- More slots change no answer but TooManyHeaders: what a call told, and what it told (with primes) on the same bytes over at least as many
 -- slots. Where there were too few, the start line is the same, and the headers that were given are the first of those given now.
 pub record MoreSlots {K : Type 0} (end end′ : Passed) (line line′ : K) (count count′ : ℕ) (old′ new new′ : List ℕ) : Type 0 where
-  pub enough : (end ≡ Bad TooManyHeaders → ⊥) → (end′ ≡ end) × (count′ ≡ count) × (new′ ≡ take (count * 4) new ++ drop (count * 4) old′)
+  pub enough : ((p : ℕ) → end ≡ Bad (fault TooManyHeaders p) → ⊥) → (end′ ≡ end) × (count′ ≡ count) × (new′ ≡ take (count * 4) new ++ drop (count * 4) old′)
   pub known : line′ ≡ line
   pub given : (count ≤ count′) × (take (count * 4) new′ ≡ take (count * 4) new)
 
@@ -124,8 +143,15 @@ ReadsFirst {L} Head read = (n : ℕ) (v t slots old : List ℕ) (r : RowRead) (s
 pub record RowStays (r r′ : RowRead) (new new′ : List ℕ) : Type 0 where
   -- the ends that were in their places are the first of those that are now
   pub ends : (r .count ≤ r′ .count) × (take (r .count) new′ ≡ take (r .count) new)
-  -- an error is the same error, behind the same heads
-  pub wrong : (e : Error) → r .stop ≡ stops.Bad e → (r′ .stop ≡ stops.Bad e) × (r′ .end ≡ r .end) × (r′ .count ≡ r .count)
+  -- an error is the same error at the same position, behind the same heads
+  pub wrong : (x : Fault) → r .stop ≡ stops.Bad x → (r′ .stop ≡ stops.Bad x) × (r′ .end ≡ r .end) × (r′ .count ≡ r .count)
+
+-- An error of a row lies where that of its head does: x is told of the whole input, and y is read, with n slots, on the bytes rest behind the
+-- heads, which end at a position
+pub record RowSaysWhere {K : Type 0} (rules : Rules) (n : ℕ) (read : List ℕ → Heads K) (end : ℕ) (rest : List ℕ) (x : Fault) : Type 0 where
+  pub y : Fault
+  pub same : x ≡ fault (y .error) (end + y .position)
+  pub placed : FaultAt rules n read rest y
 
 -- The plain form. What a call read completely can be written: with room for its form it is, and without it the writer's answer r tells
 -- how much is needed

@@ -14,7 +14,7 @@ use Rattle.reader.specs.Branch.{fresh}
 use Rattle.reader.specs.Known.{knownOf}
 use Rattle.reader.specs.Later.{Later, same, waited, later}
 use Rattle.rules.specs.Rules.{Rules, default}
-use Rattle.parts.specs.declared.Error.{Error}
+use Rattle.parts.specs.declared.Fault.{Fault}
 use Rattle.parts.specs.declared.Passed.{Passed}
 use Rattle.parts.specs.declared.Passed.the-variants.{At, More, Bad}
 use Rattle.parts.specs.EmptyLines.{start}
@@ -51,7 +51,7 @@ module _ {K : Type 0} where
       tells : (end end′ : Passed) (line line′ : K) (hs : List Header) → _≡_ {A = Heads K} (tell end (line, hs)) (tell end′ (line′, hs)) → (end′ ≡ end) × (line′ ≡ line)
       tells (At q) (At q′) line line′ hs e = let u : _≡_ {A = Known K} (line, hs) (line′, hs) = cc in (cc, sym (ap (λ y. y .0) u))
       tells More More line line′ hs e = let u : _≡_ {A = Known K} (line, hs) (line′, hs) = cc in (refl, sym (ap (λ y. y .0) u))
-      tells (Bad x) (Bad x′) line line′ hs e = let u : _≡_ {A = Error × Known K} (x, (line, hs)) (x′, (line′, hs)) = cc in (ap (λ y. Bad (y .0)) (sym u), sym (ap (λ y. y .1 .0) u))
+      tells (Bad x) (Bad x′) line line′ hs e = let u : _≡_ {A = Fault × Known K} (x, (line, hs)) (x′, (line′, hs)) = cc in (ap (λ y. Bad (y .0)) (sym u), sym (ap (λ y. y .1 .0) u))
       tells (At q) More line line′ hs e = never cc
       tells (At q) (Bad x) line line′ hs e = never cc
       tells More (At q) line line′ hs e = never cc
@@ -60,7 +60,7 @@ module _ {K : Type 0} where
       tells (Bad x) More line line′ hs e = never cc
 
   -- how a call ended where the reader waited
-  told-more : (end : Passed) (k : Known K) (u : Known K) → _≡_ {A = Heads K} (tell end k) (short u) → end ≡ More
+  pub told-more : (end : Passed) (k : Known K) (u : Known K) → _≡_ {A = Heads K} (tell end k) (short u) → end ≡ More
   told-more (At q) k u e = never cc
   told-more More k u e = refl
   told-more (Bad x) k u e = never cc
@@ -84,8 +84,8 @@ module _ {K : Type 0} where
   }
 
 -- a head by its line and its block
-module _ (r : Rules) (n : ℕ) {K S : Type 0} (m : Step S K (Error × K)) (known : S → K) (s : S) where
-  fields-grow : (xs ys : List ℕ) {a b : Answer K K (Error × K)} → Later a b → Starts (given (headed a (λ k q. over k (block r n [] xs q)))) (given (headed b (λ k q. over k (block r n [] (xs ++ ys) q))))
+module _ (r : Rules) (n : ℕ) {K S : Type 0} (m : Step S K (Fault × K)) (known : S → K) (s : S) where
+  fields-grow : (xs ys : List ℕ) {a b : Answer K K (Fault × K)} → Later a b → Starts (given (headed a (λ k q. over k (block r n [] xs q)))) (given (headed b (λ k q. over k (block r n [] (xs ++ ys) q))))
   fields-grow xs ys (same {a = got k q}) = subst (λ y. Starts y (given (over k (block r n [] (xs ++ ys) q)))) (sym (given-over k (block r n [] xs q))) (subst (Starts (blocks.given (block r n [] xs q))) (sym (given-over k (block r n [] (xs ++ ys) q))) (block-grows r n xs ys [] q))
   fields-grow xs ys (same {a = short k}) = record { more = []; whole = refl }
   fields-grow xs ys (same {a = bad x}) = record { more = []; whole = refl }
@@ -124,23 +124,23 @@ headers-stays n s t T U =
     (alone-told T) (alone-told U)
 
 -- a chunk size line
-size-same : (r r′ : ChunkSize) → sizeOf r ≡ sizeOf r′ → r′ ≡ r
+pub size-same : (r r′ : ChunkSize) → sizeOf r ≡ sizeOf r′ → r′ ≡ r
 size-same (sizes.Complete q n) (sizes.Complete p m) e = cc
 size-same sizes.Incomplete sizes.Incomplete e = refl
-size-same sizes.Invalid sizes.Invalid e = refl
+size-same (sizes.Invalid q) (sizes.Invalid p) e = cc
 size-same (sizes.Complete q n) sizes.Incomplete e = never cc
-size-same (sizes.Complete q n) sizes.Invalid e = never cc
+size-same (sizes.Complete q n) (sizes.Invalid p) e = never cc
 size-same sizes.Incomplete (sizes.Complete p m) e = never cc
-size-same sizes.Incomplete sizes.Invalid e = never cc
-size-same sizes.Invalid (sizes.Complete p m) e = never cc
-size-same sizes.Invalid sizes.Incomplete e = never cc
+size-same sizes.Incomplete (sizes.Invalid p) e = never cc
+size-same (sizes.Invalid q) (sizes.Complete p m) e = never cc
+size-same (sizes.Invalid q) sizes.Incomplete e = never cc
 
-size-waits : (r : ChunkSize) {u : Unit {0}} → sizeOf r ≡ short u → r ≡ sizes.Incomplete
+pub size-waits : (r : ChunkSize) {u : Unit {0}} → sizeOf r ≡ short u → r ≡ sizes.Incomplete
 size-waits (sizes.Complete q n) e = never cc
 size-waits sizes.Incomplete e = refl
-size-waits sizes.Invalid e = never cc
+size-waits (sizes.Invalid p) e = never cc
 
-chunk-by : {a b : Answer (Unit {0}) ℕ (Unit {0})} {r r′ : ChunkSize} → Later a b → sizeOf r ≡ a → sizeOf r′ ≡ b → (r ≡ sizes.Incomplete → ⊥) → r′ ≡ r
+chunk-by : {a b : Answer (Unit {0}) ℕ ℕ} {r r′ : ChunkSize} → Later a b → sizeOf r ≡ a → sizeOf r′ ≡ b → (r ≡ sizes.Incomplete → ⊥) → r′ ≡ r
 chunk-by {r = r} {r′ = r′} same T U n = size-same r r′ (T ∙ sym U)
 chunk-by {r = r} waited T U n = absurd (n (size-waits r T))
 

@@ -1,27 +1,36 @@
 // Lines and parts of the input.
 
-// A line's number, the first being 1, and where it starts.
+// A line's number, the first being 1, where it starts, and how many bytes of it there are.
 pub struct Line {
     pub number: usize,
     pub start: usize,
+    pub length: usize,
 }
 
 // The last line of these bytes.
 pub fn last_line(s: &[u8]) -> Line {
     let mut number = 1;
     let mut start = 0;
+    let mut length = 0;
     let mut i = 0;
     while i < s.len() {
         if s[i] == 10 {
             number += 1;
             start = i + 1;
+            length = 0;
+        } else {
+            length += 1;
         }
         i += 1;
     }
-    Line { number, start }
+    Line {
+        number,
+        start,
+        length,
+    }
 }
 
-// How long the line is that starts there, with its LF.
+// How long the line is from there on, with its LF.
 pub fn line_length(s: &[u8], start: usize) -> usize {
     let mut i = start;
     while i < s.len() {

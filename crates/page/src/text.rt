@@ -1,5 +1,7 @@
 // Text on a page. Each function answers the position behind what it put there. A position past the page's end says that there was no
 // room, and each later call answers it again.
+ghost use Prim.Native.Nat.{_<_};
+use crate::place::part;
 
 // Room for the longest report: an input of 65,536 bytes, each of them as \xHH and twice, and some words.
 pub type Page = [u8; 589824];
@@ -41,16 +43,31 @@ pub fn fill(page: &mut Page, at: usize, form: &[u8], first: usize, second: usize
     next
 }
 
+// A byte as it is shown, and how many columns that takes.
+pub struct Escape {
+    pub text: [u8; 4],
+    pub columns: usize,
+}
+
 // A byte that is not printable ASCII as an escape, and a backslash as two, so that a script can tell the bytes from the text.
-fn escape(page: &mut Page, at: usize, b: u8) -> usize {
+pub fn escape_of(b: u8) -> Escape {
     let letter = letter(b);
     if letter != 0 {
-        return put(page, at, &[b'\\', letter]);
+        return Escape {
+            text: [b'\\', letter, 0, 0],
+            columns: 2,
+        };
     }
     if (b < 32) | (126 < b) {
-        return hexadecimal(page, at, b);
+        return Escape {
+            text: [b'\\', b'x', digit(b / 16), digit(b % 16)],
+            columns: 4,
+        };
     }
-    put(page, at, &[b])
+    Escape {
+        text: [b, 0, 0, 0],
+        columns: 1,
+    }
 }
 
 // The letter of a byte's escape, and 0 where it has none.
@@ -64,18 +81,28 @@ fn letter(b: u8) -> u8 {
     }
 }
 
-fn hexadecimal(page: &mut Page, at: usize, b: u8) -> usize {
-    let mut digits = [0u8; 16];
-    let k = io::hex(b as u64, 2, &mut digits);
-    let next = put(page, at, b"\\x");
-    put(page, next, &digits[..k])
+// A hexadecimal digit.
+fn digit(n: u8) -> u8
+    requires { ⌜ n < 16 ⌝ }
+{
+    if n < 10 {
+        return b'0' + n;
+    }
+    b'a' + (n - 10)
 }
 
-fn escaped(page: &mut Page, at: usize, s: &[u8]) -> usize {
+fn put_byte(page: &mut Page, at: usize, b: u8) -> usize {
+    let escape = escape_of(b);
+    let text = escape.text;
+    let columns = escape.columns;
+    put(page, at, part(&text, 0, columns))
+}
+
+pub fn escaped(page: &mut Page, at: usize, s: &[u8]) -> usize {
     let mut next = at;
     let mut i = 0;
     while i < s.len() {
-        next = escape(page, next, s[i]);
+        next = put_byte(page, next, s[i]);
         i += 1;
     }
     next

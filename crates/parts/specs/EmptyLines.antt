@@ -11,23 +11,24 @@ use Rattle.reader.specs.Machine.{keep, before, refuse, Step, runAt}
 use Rattle.reader.specs.Laws.{run-in, run-out}
 use Rattle.reader.specs.Answer.{Answer, got, short, bad}
 use Rattle.reader.specs.Chain.{reads}
-use Rattle.parts.specs.declared.Error.{Error}
 use Rattle.parts.specs.declared.Error.the-variants.{NewLine}
+use Rattle.parts.specs.declared.Fault.{Fault}
 use Rattle.rules.specs.Rules.{Rules, default}
+use Rattle.parts.specs.Answers.{fault}
 
 -- at the start of a line, or behind the CR of an empty one
 pub data EmptyLines : Type 0 where
   start cr : EmptyLines
 
 -- by the rules that it reads
-abbrev pub emptyLinesBy : Bool → Bool → Step EmptyLines (Unit {0}) Error
+abbrev pub emptyLinesBy : Bool → Bool → Step EmptyLines (Unit {0}) Fault
 emptyLinesBy empty lf start p b = cond (empty && eqb b 13) (keep cr) (cond (empty && lf && eqb b 10) (keep start) (before tt))
-emptyLinesBy empty lf cr p b = cond (eqb b 10) (keep start) (refuse NewLine)
+emptyLinesBy empty lf cr p b = cond (eqb b 10) (keep start) (refuse (fault NewLine p))
 
-abbrev pub emptyLinesStep : Rules → Step EmptyLines (Unit {0}) Error
+abbrev pub emptyLinesStep : Rules → Step EmptyLines (Unit {0}) Fault
 emptyLinesStep r = emptyLinesBy (r .empty-lines) (r .lf-alone)
 
-abbrev pub emptyLines : Rules → List ℕ → ℕ → Answer (Unit {0}) (Unit {0}) Error
+abbrev pub emptyLines : Rules → List ℕ → ℕ → Answer (Unit {0}) (Unit {0}) Fault
 emptyLines r xs at = reads (emptyLinesStep r) start xs at
 
 -- empty lines stand from at up to i
@@ -55,7 +56,7 @@ module _ {xs : List ℕ} {at i : ℕ} (k : Empty xs at i) where
       pub empty-crlf : i + 1 < length xs → getD xs (i + 1) 0 ≡ 10 → Empty xs at (i + 1 + 1)
       empty-crlf l b = record { runs = rw (k .runs, run-in (emptyLinesStep default) start xs i h, c, run-in (emptyLinesStep default) cr xs (i + 1) l, b) }
 
-      pub empty-bare : i + 1 < length xs → (getD xs (i + 1) 0 ≡ 10 → ⊥) → bad NewLine ≡ emptyLines default xs at
+      pub empty-bare : i + 1 < length xs → (getD xs (i + 1) 0 ≡ 10 → ⊥) → bad (fault NewLine (i + 1)) ≡ emptyLines default xs at
       empty-bare l b = rw (k .runs, run-in (emptyLinesStep default) start xs i h, c, run-in (emptyLinesStep default) cr xs (i + 1) l, ne-eqb _ _ b)
 
 pub ruleset empties = (empty-none, empty-end, empty-lf, empty-done, empty-cut, empty-crlf, empty-bare)

@@ -16,6 +16,12 @@ pub enum Error {
     Version,
 }
 
+// An error, and the position of the byte that decided it; for TooManyHeaders, of the first byte of the header that had no slot.
+pub struct Fault {
+    pub error: Error,
+    pub position: usize,
+}
+
 // A part of the input.
 pub struct Piece {
     pub offset: usize,
@@ -26,21 +32,21 @@ pub struct Piece {
 pub enum Passed {
     At(usize),
     More,
-    Bad(Error),
+    Bad(Fault),
 }
 
 // The same of a part that is a piece.
 pub enum Found {
     At(Piece, usize),
     More,
-    Bad(Error),
+    Bad(Fault),
 }
 
 // The same of a part that is a number.
 pub enum Number {
     At(usize, usize),
     More,
-    Bad(Error),
+    Bad(Fault),
 }
 
 // CR LF or LF. What stands there instead is the error of the place.
@@ -55,7 +61,10 @@ pub fn line_end(s: &[u8], at: usize, error: Error) -> Passed
         return Passed::At(at + 1);
     }
     if b != 13 {
-        return Passed::Bad(error);
+        return Passed::Bad(Fault {
+            error,
+            position: at,
+        });
     }
     let next = at + 1;
     if s.len() <= next {
@@ -64,7 +73,10 @@ pub fn line_end(s: &[u8], at: usize, error: Error) -> Passed
     if s[next] == 10 {
         Passed::At(next + 1)
     } else {
-        Passed::Bad(error)
+        Passed::Bad(Fault {
+            error,
+            position: next,
+        })
     }
 }
 
@@ -87,7 +99,10 @@ pub fn empty_lines(s: &[u8], at: usize) -> Passed
             return Passed::More;
         }
         if s[next] != 10 {
-            return Passed::Bad(Error::NewLine);
+            return Passed::Bad(Fault {
+                error: Error::NewLine,
+                position: next,
+            });
         }
         i = next + 1;
     }

@@ -7,7 +7,7 @@ use mathlib.Core.List.{List}
 use mathlib.Core.Bool.{Bool, true, false, false≢true}
 use lib.ListN.{length, drop, getD}
 use borrow.Author.Tests.{not-true, not-false}
-use Rattle.parts.specs.declared.Error.{Error}
+use Rattle.parts.specs.declared.Fault.{Fault}
 use Rattle.parts.specs.declared.Passed.{Passed}
 use Rattle.parts.specs.declared.Passed.the-variants.{At, More, Bad}
 use Rattle.parts.specs.declared.Piece.{Piece}
@@ -66,7 +66,7 @@ module _ (offset size n : ℕ) where
 no-more : Complete More → ⊥
 no-more = elim [ ]
 
-no-bad : {x : Error} → Complete (Bad x) → ⊥
+no-bad : {x : Fault} → Complete (Bad x) → ⊥
 no-bad = elim [ ]
 
 lies-in : {s : List ℕ} {p : Piece} → Lies s (pieces.Is p) → p .offset + p .length ≤ length s
@@ -88,7 +88,7 @@ module _ {e : Passed} where
   pub complete-more : e ≡ More → Decides (Complete e) false
   complete-more h = decides-no (λ y. no-more (subst Complete h y))
 
-  pub complete-bad : {x : Error} → e ≡ Bad x → Decides (Complete e) false
+  pub complete-bad : {x : Fault} → e ≡ Bad x → Decides (Complete e) false
   complete-bad h = decides-no (λ y. no-bad (subst Complete h y))
 
 module _ {s : List ℕ} {k : KnownPiece} where

@@ -13,3 +13,4 @@ pub mod Tests
 pub mod Refusals
 pub mod Known
 pub mod Later
+pub mod Decided

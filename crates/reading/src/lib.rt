@@ -1,12 +1,14 @@
 // What was read of an input, in the same words for each kind.
+pub mod decided;
+
 use chunks::ChunkSize;
 use parts::Passed;
 use requestline::RequestLine;
 use rules::Settings;
 use startline::KnownNumber;
 use statusline::StatusLine;
-use wording::Fault;
 use wording::Kind;
+use wording::Wrong;
 
 pub const MOST_HEADERS: usize = 100;
 
@@ -15,11 +17,11 @@ pub const NUMBERS: usize = MOST_HEADERS * 4;
 
 pub type Slots = [usize; NUMBERS];
 
-// The position behind what was read; or more is wanted; or something is wrong.
+// The position behind what was read; or more is wanted; or what is wrong, and the position of the byte that decided it.
 pub enum Answer {
     Complete(usize),
     Incomplete,
-    Wrong(Fault),
+    Wrong(Wrong, usize),
 }
 
 // What the start line tells, as far as it is known.
@@ -81,7 +83,10 @@ fn ended(end: Passed) -> Answer {
     match end {
         Passed::At(next) => Answer::Complete(next),
         Passed::More => Answer::Incomplete,
-        Passed::Bad(e) => Answer::Wrong(Fault::Head(e)),
+        Passed::Bad(fault) => {
+            let error = fault.error;
+            Answer::Wrong(Wrong::Head(error), fault.position)
+        }
     }
 }
 
@@ -98,37 +103,10 @@ fn chunk(s: &[u8]) -> Reading {
             first: First::Size(KnownNumber::NotYet),
             count: 0,
         },
-        ChunkSize::Invalid => Reading {
-            answer: Answer::Wrong(Fault::Chunk),
+        ChunkSize::Invalid(position) => Reading {
+            answer: Answer::Wrong(Wrong::Size, position),
             first: First::Size(KnownNumber::NotYet),
             count: 0,
         },
-    }
-}
-
-// The position of the byte that decides the answer, or the input's end where none does. An answer stays the same whatever bytes
-// follow, so the byte is found by halves: it is the last of the shortest start of the input that is not incomplete.
-pub fn decided(kind: Kind, s: &[u8], settings: Settings) -> usize {
-    let mut low = 0;
-    let mut high = s.len();
-    while low < high {
-        let middle = low + (high - low) / 2;
-        let next = middle + 1;
-        if is_incomplete(kind, &s[0..next], settings) {
-            low = next;
-        } else {
-            high = middle;
-        }
-    }
-    low
-}
-
-fn is_incomplete(kind: Kind, s: &[u8], settings: Settings) -> bool {
-    let mut slots = [0usize; NUMBERS];
-    let reading = read(kind, s, &mut slots, settings);
-    let answer = reading.answer;
-    match answer {
-        Answer::Incomplete => true,
-        _ => false,
     }
 }

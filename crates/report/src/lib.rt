@@ -1,16 +1,18 @@
 // The report on an input: an answer, told to a person or to a script, and the rows of what was found.
 mod rows;
 
+use expected::Expected;
 use page::place;
 use page::text::Page;
 use page::text::fill;
 use page::text::put;
-use page::text::row;
 use reading::Answer;
+use reading::First;
 use reading::NUMBERS;
+use reading::decided::expected;
 use rules::Settings;
-use wording::Fault;
 use wording::Kind;
+use wording::Wrong;
 
 // Answers how long the report is, or a number above the page's length where it has no room.
 pub fn report(page: &mut Page, kind: Kind, raw: bool, s: &[u8], settings: Settings) -> usize {
@@ -19,9 +21,9 @@ pub fn report(page: &mut Page, kind: Kind, raw: bool, s: &[u8], settings: Settin
     let answer = reading.answer;
     let first = reading.first;
     let next = if raw {
-        for_script(page, kind, answer, s, settings)
+        for_script(page, answer, s)
     } else {
-        for_person(page, kind, answer, s, settings)
+        for_person(page, kind, answer, first, s)
     };
     let next = rows::first_line(page, next, raw, s, first);
     match kind {
@@ -31,26 +33,32 @@ pub fn report(page: &mut Page, kind: Kind, raw: bool, s: &[u8], settings: Settin
 }
 
 // The answer, and where the input is complete or where it is not.
-fn for_script(page: &mut Page, kind: Kind, answer: Answer, s: &[u8], settings: Settings) -> usize {
+fn for_script(page: &mut Page, answer: Answer, s: &[u8]) -> usize {
     match answer {
         Answer::Complete(end) => fill(page, 0, b"answer\tcomplete\nend\t#\n", end, 0),
         Answer::Incomplete => {
             let next = put(page, 0, b"answer\tincomplete\n");
-            stop_rows(page, next, kind, s, settings)
+            stop_rows(page, next, s, s.len())
         }
-        Answer::Wrong(fault) => {
+        Answer::Wrong(wrong, position) => {
             let next = put(page, 0, b"answer\terror\t");
-            let next = wording::name(page, next, fault);
+            let next = wording::name(page, next, wrong);
             let next = put(page, next, b"\n");
-            stop_rows(page, next, kind, s, settings)
+            stop_rows(page, next, s, position)
         }
     }
 }
 
-fn stop_rows(page: &mut Page, at: usize, kind: Kind, s: &[u8], settings: Settings) -> usize {
-    let stop = reading::decided(kind, s, settings);
-    let line = place::last_line(place::part(s, 0, stop));
-    let next = fill(page, at, b"stopped\t#\nline-number\t#\n", stop, line.number);
+// The position where the reading stopped, and the line that it stopped in.
+fn stop_rows(page: &mut Page, at: usize, s: &[u8], position: usize) -> usize {
+    let line = place::last_line(place::part(s, 0, position));
+    let next = fill(
+        page,
+        at,
+        b"stopped\t#\nline-number\t#\n",
+        position,
+        line.number,
+    );
     rows::piece(
         page,
         next,
@@ -61,11 +69,14 @@ fn stop_rows(page: &mut Page, at: usize, kind: Kind, s: &[u8], settings: Setting
     )
 }
 
-fn for_person(page: &mut Page, kind: Kind, answer: Answer, s: &[u8], settings: Settings) -> usize {
+fn for_person(page: &mut Page, kind: Kind, answer: Answer, first: First, s: &[u8]) -> usize {
     let next = match answer {
         Answer::Complete(end) => complete(page, kind, end, s.len()),
-        Answer::Incomplete => incomplete(page, kind, s, settings),
-        Answer::Wrong(fault) => wrong(page, kind, fault, s, settings),
+        Answer::Incomplete => incomplete(page, kind, s),
+        Answer::Wrong(wrong, position) => {
+            let expected = expected(first, wrong, s, position);
+            refused(page, wrong, expected, s, position)
+        }
     };
     heading(page, next, kind)
 }
@@ -76,41 +87,46 @@ fn complete(page: &mut Page, kind: Kind, end: usize, all: usize) -> usize {
     fill(page, next, b" is the first # of # bytes\n", end, all)
 }
 
-fn incomplete(page: &mut Page, kind: Kind, s: &[u8], settings: Settings) -> usize {
+fn incomplete(page: &mut Page, kind: Kind, s: &[u8]) -> usize {
     let next = put(page, 0, b"incomplete");
-    let next = stop(page, next, kind, s, settings);
-    let next = put(page, next, b"  wrong: the input ends before ");
+    let next = stop(page, next, s, s.len());
+    let next = put(
+        page,
+        next,
+        b"  expected: more bytes, since the input ends before ",
+    );
     let next = wording::subject(page, next, kind);
     put(
         page,
         next,
         b" does
-  to do: try again from the start when more bytes have come; if none will, the sender broke off: discard what
-         came and ask for all of it again
+  to do:    try again from the start when more bytes have come; if none will, the sender broke off: discard
+            what came and ask for all of it again
 ",
     )
 }
 
-fn wrong(page: &mut Page, kind: Kind, fault: Fault, s: &[u8], settings: Settings) -> usize {
+fn refused(page: &mut Page, wrong: Wrong, expected: Expected, s: &[u8], position: usize) -> usize {
     let next = put(page, 0, b"error ");
-    let next = wording::name(page, next, fault);
-    let next = stop(page, next, kind, s, settings);
-    wording::advice(page, next, fault)
+    let next = wording::name(page, next, wrong);
+    let next = stop(page, next, s, position);
+    let next = put(page, next, b"  expected: ");
+    let next = expected::sentence(page, next, expected);
+    let next = put(page, next, b"  to do:    ");
+    wording::advice::advice(page, next, expected)
 }
 
 // Where the reading stopped, and the line that it stopped in.
-fn stop(page: &mut Page, at: usize, kind: Kind, s: &[u8], settings: Settings) -> usize {
-    let stop = reading::decided(kind, s, settings);
-    let line = place::last_line(place::part(s, 0, stop));
-    let text = place::part(s, line.start, place::line_length(s, line.start));
-    row(
+fn stop(page: &mut Page, at: usize, s: &[u8], position: usize) -> usize {
+    let line = place::last_line(place::part(s, 0, position));
+    let next = fill(
         page,
         at,
-        b" at offset #, in line #: ",
-        stop,
+        b" at offset #, in line #:\n",
+        position,
         line.number,
-        text,
-    )
+    );
+    caret::pointed(page, next, s, line, position)
 }
 
 // What stands in the rows, but for a chunk's single row.

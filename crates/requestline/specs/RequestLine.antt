@@ -8,7 +8,7 @@ use Rattle.reader.specs.Seq.{Then, first, seq}
 use Rattle.reader.specs.Answer.{Answer, answer, either}
 use Rattle.reader.specs.Chain.{part, last, chain, chain-same, answer-last, answer-chain}
 use Rattle.octets.specs.Class.{isToken}
-use Rattle.parts.specs.declared.Error.{Error}
+use Rattle.parts.specs.declared.Fault.{Fault}
 use Rattle.parts.specs.declared.Error.the-variants.{NewLine, Token}
 use Rattle.parts.specs.declared.Piece.{Piece}
 use Rattle.rules.specs.Rules.{Rules}
@@ -37,7 +37,7 @@ abbrev pub withVersion : RequestLine → ℕ → RequestLine
 withVersion k v = record { method = k .method; target = k .target; version = numbers.Is v }
 
 abbrev pub Line : Type 0 → Type 0
-Line S = Step S RequestLine (Error × RequestLine)
+Line S = Step S RequestLine (Fault × RequestLine)
 
 -- the states, from the last part to the first
 abbrev pub Versions : Type 0
@@ -84,24 +84,24 @@ methodKnown k = either (λ _. k) targetKnown
 abbrev pub lineKnown : Starts → RequestLine
 lineKnown = either (λ _. unread) methodKnown
 
-abbrev pub requestLine : Rules → List ℕ → ℕ → Answer RequestLine RequestLine (Error × RequestLine)
+abbrev pub requestLine : Rules → List ℕ → ℕ → Answer RequestLine RequestLine (Fault × RequestLine)
 requestLine r xs at = answer lineKnown (runAt (requestLineStep r) (first start) xs at)
 
 -- the same by its parts
 module _ (r : Rules) (xs : List ℕ) where
-  abbrev pub fromEnd : RequestLine → ℕ → Answer RequestLine RequestLine (Error × RequestLine)
+  abbrev pub fromEnd : RequestLine → ℕ → Answer RequestLine RequestLine (Fault × RequestLine)
   fromEnd k q = last k (λ _. k) (lineEnd r NewLine xs q)
 
-  abbrev pub fromVersion : RequestLine → ℕ → Answer RequestLine RequestLine (Error × RequestLine)
+  abbrev pub fromVersion : RequestLine → ℕ → Answer RequestLine RequestLine (Fault × RequestLine)
   fromVersion k q = chain k (withVersion k) (version xs q) fromEnd
 
-  abbrev pub fromTarget : RequestLine → ℕ → Answer RequestLine RequestLine (Error × RequestLine)
+  abbrev pub fromTarget : RequestLine → ℕ → Answer RequestLine RequestLine (Fault × RequestLine)
   fromTarget k q = chain k (withTarget k) (target (targetByte (r .any-target)) xs q) fromVersion
 
-  abbrev pub fromMethod : RequestLine → ℕ → Answer RequestLine RequestLine (Error × RequestLine)
+  abbrev pub fromMethod : RequestLine → ℕ → Answer RequestLine RequestLine (Fault × RequestLine)
   fromMethod k q = chain k (withMethod k) (word isToken 32 Token xs q) fromTarget
 
-  abbrev pub fromStart : ℕ → Answer RequestLine RequestLine (Error × RequestLine)
+  abbrev pub fromStart : ℕ → Answer RequestLine RequestLine (Fault × RequestLine)
   fromStart q = chain unread (λ _. unread) (emptyLines r xs q) fromMethod
 
   end-parts : (k : RequestLine) (q : ℕ) → answer (endKnown k) (runAt (endStep r k) begin xs q) ≡ fromEnd k q
@@ -127,5 +127,5 @@ module _ (r : Rules) (xs : List ℕ) where
       answer-chain unread (λ _. unread) (emptyLinesStep r) start xs q methodKnown (λ _. first words.none) (methodOn r)
       ∙ chain-same unread (λ _. unread) (emptyLines r xs q) method-parts
 
-  pub request-line-whole : {z : Answer RequestLine RequestLine (Error × RequestLine)} (q : ℕ) → z ≡ fromStart q → z ≡ requestLine r xs q
+  pub request-line-whole : {z : Answer RequestLine RequestLine (Fault × RequestLine)} (q : ℕ) → z ≡ fromStart q → z ≡ requestLine r xs q
   request-line-whole q e = e ∙ sym (line-parts q)

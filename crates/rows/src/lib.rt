@@ -6,27 +6,13 @@ ghost use Rattle.rules.specs.Rules.{default};
 ghost use Rattle.rules.specs.Settings.{rulesOf};
 ghost use Rattle.grammar.specs.Message.{request-head, response-head};
 ghost use Rattle.heads.specs.Calls.{request as requestOf, response as responseOf};
-ghost use Rattle.rows.specs.Row.{used, RowPromise};
-ghost use Rattle.rows.specs.Reading.{Next};
-use parts::Error;
+ghost use Rattle.rowread.specs.Row.{used, RowPromise};
+ghost use Rattle.rowread.specs.Reading.{Next};
+use parts::Fault;
 use parts::Passed;
+use rowread::RowRead;
+use rowread::Stop;
 use rules::Settings;
-
-// Why the reading stopped: all of the input was read; there is no room for one more end; the input ends before the next head does; the
-// next head has an error.
-pub enum Stop {
-    End,
-    Full,
-    More,
-    Bad(Error),
-}
-
-// How many heads were read, the position behind the last of them, and why the reading stopped there.
-pub struct RowRead {
-    pub count: usize,
-    pub end: usize,
-    pub stop: Stop,
-}
 
 // The end of the head that starts at `at`, from there on.
 fn next_request(s: &[u8], at: usize, slots: &mut [usize], settings: Settings) -> Passed
@@ -77,11 +63,13 @@ pub fn requests(s: &[u8], slots: &mut [usize], ends: &mut [usize], settings: Set
                     stop: Stop::More,
                 };
             }
-            Passed::Bad(e) => {
+            Passed::Bad(fault) => {
+                let error = fault.error;
+                let position = at + fault.position;
                 return RowRead {
                     count,
                     end: at,
-                    stop: Stop::Bad(e),
+                    stop: Stop::Bad(Fault { error, position }),
                 };
             }
         }
@@ -120,11 +108,13 @@ pub fn responses(s: &[u8], slots: &mut [usize], ends: &mut [usize]) -> RowRead
                     stop: Stop::More,
                 };
             }
-            Passed::Bad(e) => {
+            Passed::Bad(fault) => {
+                let error = fault.error;
+                let position = at + fault.position;
                 return RowRead {
                     count,
                     end: at,
-                    stop: Stop::Bad(e),
+                    stop: Stop::Bad(Fault { error, position }),
                 };
             }
         }

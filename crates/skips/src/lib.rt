@@ -2,8 +2,6 @@
 ghost use Rattle.reader.specs.Skip.{Skipped};
 ghost use Rattle.octets.specs.Class.{isAscii, isBlank, isTarget, isToken, isValue, isVisible};
 
-mod eights;
-
 // Where all eight are of the class, the next position does not wait for what they are: the processor guesses, and reads on.
 // Each skip answers where the row of bytes of its class that starts at `at` ends, and `at` itself where that is past the end.
 pub fn skip_token(s: &[u8], at: usize) -> usize

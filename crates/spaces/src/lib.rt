@@ -4,6 +4,7 @@ ghost use Rattle.rules.specs.Rules.{default};
 ghost use Rattle.parts.specs.Answers.{passed};
 ghost use Rattle.spaces.specs.Space.{space as spaceAt, behindCode};
 use parts::Error;
+use parts::Fault;
 use parts::Passed;
 
 // The single space between a version and a code.
@@ -16,7 +17,10 @@ pub fn space(s: &[u8], at: usize, error: Error) -> Passed
     if s[at] == 32 {
         Passed::At(at + 1)
     } else {
-        Passed::Bad(error)
+        Passed::Bad(Fault {
+            error,
+            position: at,
+        })
     }
 }
 
@@ -37,6 +41,9 @@ pub fn behind_code(s: &[u8], at: usize) -> Passed
     if b == 10 {
         Passed::At(at)
     } else {
-        Passed::Bad(Error::Status)
+        Passed::Bad(Fault {
+            error: Error::Status,
+            position: at,
+        })
     }
 }

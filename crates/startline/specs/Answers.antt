@@ -4,7 +4,7 @@ use Prim.Native.Nat.{ℕ}
 use mathlib.Core.Path.{_≡_, refl}
 use Rattle.reader.specs.Answer.{Answer, got, short, bad}
 use Rattle.reader.specs.Chain.{last}
-use Rattle.parts.specs.declared.Error.{Error}
+use Rattle.parts.specs.declared.Fault.{Fault}
 use Rattle.parts.specs.declared.Passed.{Passed}
 use Rattle.parts.specs.declared.Passed.the-variants as passes
 use Rattle.parts.specs.Answers.{passed}
@@ -17,7 +17,7 @@ numberOf (numbers.Is n) = n
 numberOf numbers.NotYet = 0
 
 -- an answer in which k is known
-abbrev pub tell : {K : Type 0} → Passed → K → Answer K K (Error × K)
+abbrev pub tell : {K : Type 0} → Passed → K → Answer K K (Fault × K)
 tell (passes.At q) k = got k q
 tell passes.More k = short k
 tell (passes.Bad e) k = bad (e, k)
@@ -28,5 +28,5 @@ told-last k passes.More = refl
 told-last k (passes.Bad e) = refl
 
 -- the last part, whose answer is the whole's
-pub tell-last : {K : Type 0} (k : K) (p : Passed) {r : Answer (Unit {0}) (Unit {0}) Error} → passed p ≡ r → tell p k ≡ last k (λ _. k) r
+pub tell-last : {K : Type 0} (k : K) (p : Passed) {r : Answer (Unit {0}) (Unit {0}) Fault} → passed p ≡ r → tell p k ≡ last k (λ _. k) r
 tell-last k p e = rw (← e) (told-last k p)

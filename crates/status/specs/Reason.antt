@@ -15,7 +15,7 @@ use Rattle.reader.specs.Answer.{Answer, got, short}
 use Rattle.reader.specs.Chain.{reads, reads-out}
 use Rattle.reader.specs.Tests.{both-true}
 use Rattle.octets.specs.Class.{isValue, isAscii}
-use Rattle.parts.specs.declared.Error.{Error}
+use Rattle.parts.specs.declared.Fault.{Fault}
 use Rattle.parts.specs.declared.Piece.{Piece}
 use Rattle.parts.specs.Answers.{piece}
 
@@ -28,11 +28,11 @@ pub data Reason : Type 0 where
   none : Reason
   inside : ℕ → Bool → Reason
 
-abbrev pub reasonStep : Step Reason Piece Error
+abbrev pub reasonStep : Step Reason Piece Fault
 reasonStep none p b = cond (isValue b) (keep (inside p (not (isAscii b)))) (before (piece p p))
 reasonStep (inside a obs) p b = cond (isValue b) (keep (inside a (obs || not (isAscii b)))) (before (cond obs (empty a) (piece a p)))
 
-abbrev pub reason : List ℕ → ℕ → Answer (Unit {0}) Piece Error
+abbrev pub reason : List ℕ → ℕ → Answer (Unit {0}) Piece Fault
 reason xs at = reads reasonStep none xs at
 
 -- an ASCII byte of a reason

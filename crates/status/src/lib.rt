@@ -5,6 +5,7 @@ ghost use Rattle.parts.specs.Answers.{found, number};
 ghost use Rattle.status.specs.Code.{code as codeAt, onto as ontoOf};
 ghost use Rattle.status.specs.Reason.{reason as reasonAt};
 use parts::Error;
+use parts::Fault;
 use parts::Found;
 use parts::Number;
 use parts::Piece;
@@ -34,21 +35,30 @@ pub fn code(s: &[u8], at: usize) -> Number
         return Number::More;
     }
     if !octets::is_digit(s[at]) {
-        return Number::Bad(Error::Status);
+        return Number::Bad(Fault {
+            error: Error::Status,
+            position: at,
+        });
     }
     let second = at + 1;
     if s.len() <= second {
         return Number::More;
     }
     if !octets::is_digit(s[second]) {
-        return Number::Bad(Error::Status);
+        return Number::Bad(Fault {
+            error: Error::Status,
+            position: second,
+        });
     }
     let third = second + 1;
     if s.len() <= third {
         return Number::More;
     }
     if !octets::is_digit(s[third]) {
-        return Number::Bad(Error::Status);
+        return Number::Bad(Fault {
+            error: Error::Status,
+            position: third,
+        });
     }
     let one = onto(0, s[at]);
     let two = onto(one, s[second]);

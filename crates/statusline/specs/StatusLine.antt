@@ -8,7 +8,7 @@ use Rattle.reader.specs.Judged.{pass, judged}
 use Rattle.reader.specs.Seq.{Then, first, seq}
 use Rattle.reader.specs.Answer.{Answer, answer, and, and-same, answer-seq, either}
 use Rattle.reader.specs.Chain.{nothing, reads, ended, answer-ended, part, last, chain, chain-same, answer-last, answer-chain}
-use Rattle.parts.specs.declared.Error.{Error}
+use Rattle.parts.specs.declared.Fault.{Fault}
 use Rattle.parts.specs.declared.Error.the-variants.{Status, Version}
 use Rattle.parts.specs.declared.Piece.{Piece}
 use Rattle.rules.specs.Rules.{Rules}
@@ -38,7 +38,7 @@ abbrev pub withReason : StatusLine → Piece → StatusLine
 withReason k w = record { version = k .version; code = k .code; reason = pieces.Is w }
 
 abbrev pub Line : Type 0 → Type 0
-Line S = Step S StatusLine (Error × StatusLine)
+Line S = Step S StatusLine (Fault × StatusLine)
 
 -- the states, from the last part to the first
 abbrev pub ReasonEnd : Type 0
@@ -61,7 +61,7 @@ Starts = Then EmptyLines StatusLine Versions
 
 module _ (r : Rules) where
   -- a reason is known once its line has ended
-  abbrev pub reasonEndStep : Step ReasonEnd Piece Error
+  abbrev pub reasonEndStep : Step ReasonEnd Piece Fault
   reasonEndStep = seq reasonStep (λ _. begin) (λ w. judged (λ _. pass w) (λ e. e) (lineEndStep r Status))
 
   abbrev pub reasonOn : StatusLine → Line ReasonEnd
@@ -101,30 +101,30 @@ versionKnown k = either (λ _. k) spaceKnown
 abbrev pub lineKnown : Starts → StatusLine
 lineKnown = either (λ _. unread) versionKnown
 
-abbrev pub statusLine : Rules → List ℕ → ℕ → Answer StatusLine StatusLine (Error × StatusLine)
+abbrev pub statusLine : Rules → List ℕ → ℕ → Answer StatusLine StatusLine (Fault × StatusLine)
 statusLine r xs at = answer lineKnown (runAt (statusLineStep r) (first start) xs at)
 
 -- the same by its parts
 module _ (r : Rules) (xs : List ℕ) where
-  abbrev pub reasonEnd : ℕ → Answer (Unit {0}) Piece Error
+  abbrev pub reasonEnd : ℕ → Answer (Unit {0}) Piece Fault
   reasonEnd q = and (reason xs q) (λ w i. ended w (lineEnd r Status xs i))
 
-  abbrev pub fromReason : StatusLine → ℕ → Answer StatusLine StatusLine (Error × StatusLine)
+  abbrev pub fromReason : StatusLine → ℕ → Answer StatusLine StatusLine (Fault × StatusLine)
   fromReason k q = last k (withReason k) (reasonEnd q)
 
-  abbrev pub fromBehind : StatusLine → ℕ → Answer StatusLine StatusLine (Error × StatusLine)
+  abbrev pub fromBehind : StatusLine → ℕ → Answer StatusLine StatusLine (Fault × StatusLine)
   fromBehind k q = chain k (λ _. k) (behindCode r xs q) fromReason
 
-  abbrev pub fromCode : StatusLine → ℕ → Answer StatusLine StatusLine (Error × StatusLine)
+  abbrev pub fromCode : StatusLine → ℕ → Answer StatusLine StatusLine (Fault × StatusLine)
   fromCode k q = chain k (withCode k) (code xs q) fromBehind
 
-  abbrev pub fromSpace : StatusLine → ℕ → Answer StatusLine StatusLine (Error × StatusLine)
+  abbrev pub fromSpace : StatusLine → ℕ → Answer StatusLine StatusLine (Fault × StatusLine)
   fromSpace k q = chain k (λ _. k) (space Version xs q) fromCode
 
-  abbrev pub fromVersion : StatusLine → ℕ → Answer StatusLine StatusLine (Error × StatusLine)
+  abbrev pub fromVersion : StatusLine → ℕ → Answer StatusLine StatusLine (Fault × StatusLine)
   fromVersion k q = chain k (withVersion k) (version xs q) fromSpace
 
-  abbrev pub fromStart : ℕ → Answer StatusLine StatusLine (Error × StatusLine)
+  abbrev pub fromStart : ℕ → Answer StatusLine StatusLine (Fault × StatusLine)
   fromStart q = chain unread (λ _. unread) (emptyLines r xs q) fromVersion
 
   reason-end-parts : (q : ℕ) → reads (reasonEndStep r) (first reasons.none) xs q ≡ reasonEnd q
@@ -160,5 +160,5 @@ module _ (r : Rules) (xs : List ℕ) where
       answer-chain unread (λ _. unread) (emptyLinesStep r) start xs q versionKnown (λ _. first name) (versionOn r)
       ∙ chain-same unread (λ _. unread) (emptyLines r xs q) version-parts
 
-  pub status-line-whole : {z : Answer StatusLine StatusLine (Error × StatusLine)} (q : ℕ) → z ≡ fromStart q → z ≡ statusLine r xs q
+  pub status-line-whole : {z : Answer StatusLine StatusLine (Fault × StatusLine)} (q : ℕ) → z ≡ fromStart q → z ≡ statusLine r xs q
   status-line-whole q e = e ∙ sym (line-parts q)

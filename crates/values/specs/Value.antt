@@ -13,7 +13,7 @@ use Rattle.reader.specs.Laws.{run-in, run-out}
 use Rattle.reader.specs.Answer.{Answer, got, short}
 use Rattle.reader.specs.Chain.{reads, reads-out}
 use Rattle.octets.specs.Class.{isBlank, isValue}
-use Rattle.parts.specs.declared.Error.{Error}
+use Rattle.parts.specs.declared.Fault.{Fault}
 use Rattle.parts.specs.declared.Piece.{Piece}
 use Rattle.parts.specs.Answers.{piece}
 use Rattle.values.specs.Trim.{Trimmed}
@@ -23,11 +23,11 @@ pub data Value : Type 0 where
   blanks : Value
   inside : ℕ → ℕ → Value
 
-abbrev pub valueStep : Step Value Piece Error
+abbrev pub valueStep : Step Value Piece Fault
 valueStep blanks p b = cond (isBlank b) (keep blanks) (cond (isValue b) (keep (inside p (p + 1))) (before (piece p p)))
 valueStep (inside v e) p b = cond (isValue b) (keep (inside v (cond (isBlank b) e (p + 1)))) (before (piece v e))
 
-abbrev pub value : List ℕ → ℕ → Answer (Unit {0}) Piece Error
+abbrev pub value : List ℕ → ℕ → Answer (Unit {0}) Piece Fault
 value xs at = reads valueStep blanks xs at
 
 -- a blank may stand in a value

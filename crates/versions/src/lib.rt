@@ -3,6 +3,7 @@ ghost use mathlib.Core.Path.{_≡_};
 ghost use Rattle.parts.specs.Answers.{number};
 ghost use Rattle.versions.specs.Version.{version as versionAt};
 use parts::Error;
+use parts::Fault;
 use parts::Number;
 
 const NAME: [u8; 7] = *b"HTTP/1.";
@@ -18,7 +19,10 @@ pub fn version(s: &[u8], at: usize) -> Number
             return Number::More;
         }
         if s[i] != NAME[k] {
-            return Number::Bad(Error::Version);
+            return Number::Bad(Fault {
+                error: Error::Version,
+                position: i,
+            });
         }
         i += 1;
         k += 1;
@@ -32,5 +36,8 @@ pub fn version(s: &[u8], at: usize) -> Number
     if s[i] == 49 {
         return Number::At(1, i + 1);
     }
-    Number::Bad(Error::Version)
+    Number::Bad(Fault {
+        error: Error::Version,
+        position: i,
+    })
 }

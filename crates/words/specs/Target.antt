@@ -18,10 +18,10 @@ use Rattle.reader.specs.Chain.{reads}
 use Rattle.octets.specs.Class.{isTarget, isVisible}
 use Rattle.octets.specs.Outside.{space-no-target, space-not-visible}
 use Rattle.utf8.specs.Reader.{State, step, machine, whole, utf8}
-use Rattle.parts.specs.declared.Error.{Error}
 use Rattle.parts.specs.declared.Error.the-variants.{Token}
+use Rattle.parts.specs.declared.Fault.{Fault}
 use Rattle.parts.specs.declared.Piece.{Piece}
-use Rattle.parts.specs.Answers.{piece}
+use Rattle.parts.specs.Answers.{piece, fault}
 
 -- a run of the UTF-8 reader
 abbrev pub Utf8 : Type 0
@@ -40,13 +40,13 @@ abbrev pub targetByte : Bool → ℕ → Bool
 targetByte any b = cond any (isTarget b) (isVisible b)
 
 -- what is not UTF-8 is noticed at the space, and not before; a byte that is not of the class at once
-abbrev pub targetStep : (ℕ → Bool) → Step Target Piece Error
-targetStep class none p b = cond (class b) (keep (some p (feed (more []) p b))) (refuse Token)
+abbrev pub targetStep : (ℕ → Bool) → Step Target Piece Fault
+targetStep class none p b = cond (class b) (keep (some p (feed (more []) p b))) (refuse (fault Token p))
 targetStep class (some a u) p b =
     cond (class b) (keep (some a (feed u p b)))
-    (cond (eqb b 32) (cond (whole u) (give (piece a p)) (refuse Token)) (refuse Token))
+    (cond (eqb b 32) (cond (whole u) (give (piece a p)) (refuse (fault Token p))) (refuse (fault Token p)))
 
-abbrev pub target : (ℕ → Bool) → List ℕ → ℕ → Answer (Unit {0}) Piece Error
+abbrev pub target : (ℕ → Bool) → List ℕ → ℕ → Answer (Unit {0}) Piece Fault
 target class xs at = reads (targetStep class) none xs at
 
 pub space-no-target-byte : (any : Bool) → targetByte any 32 ≡ false
@@ -109,7 +109,7 @@ module _ (class : ℕ → Bool) (xs : List ℕ) (at : ℕ) where
   pub target-none : length xs ≤ at → short tt ≡ target class xs at
   target-none h = rw (run-out (targetStep class) none xs at h)
 
-  pub target-not : at < length xs → class (getD xs at 0) ≡ false → bad Token ≡ target class xs at
+  pub target-not : at < length xs → class (getD xs at 0) ≡ false → bad (fault Token at) ≡ target class xs at
   target-not h c = rw (run-in (targetStep class) none xs at h, c)
 
   module _ {r : ℕ} (h : at < length xs) (c : class (getD xs at 0) ≡ true) (k : Skipped class xs (at + 1) r) where
@@ -129,7 +129,7 @@ module _ (class : ℕ → Bool) (xs : List ℕ) (at : ℕ) where
     pub target-more : length xs ≤ r → short tt ≡ target class xs at
     target-more l = rw (target-some, run-out (targetStep class) (some at seen) xs r l)
 
-    pub target-bad : r < length xs → (getD xs r 0 ≡ 32 → ⊥) → bad Token ≡ target class xs at
+    pub target-bad : r < length xs → (getD xs r 0 ≡ 32 → ⊥) → bad (fault Token r) ≡ target class xs at
     target-bad l t = rw (target-some, run-in (targetStep class) (some at seen) xs r l, k .stop l, ne-eqb _ _ t)
 
     -- what the test of UTF-8 told comes before what it tells of, so that a search knows which test is meant
@@ -138,7 +138,7 @@ module _ (class : ℕ → Bool) (xs : List ℕ) (at : ℕ) where
       unfolding seen
       target-end v u = rw (target-some, run-in (targetStep class) (some at seen) xs r l, k .stop l, eq-eqb _ _ t, anywhere (take (r - at) (drop at xs)) [] at 0, told-true u v)
 
-      pub target-broken : {w : Bool} → not w ≡ true → w ≡ utf8 (take (r - at) (drop at xs)) → bad Token ≡ target class xs at
+      pub target-broken : {w : Bool} → not w ≡ true → w ≡ utf8 (take (r - at) (drop at xs)) → bad (fault Token r) ≡ target class xs at
       unfolding seen
       target-broken v u = rw (target-some, run-in (targetStep class) (some at seen) xs r l, k .stop l, eq-eqb _ _ t, anywhere (take (r - at) (drop at xs)) [] at 0, told-false u v)
 

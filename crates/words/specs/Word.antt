@@ -13,26 +13,28 @@ use Rattle.reader.specs.Skip.{Skipped, skip, told-true, told-false}
 use Rattle.reader.specs.Laws.{run-in, run-out}
 use Rattle.reader.specs.Answer.{Answer, got, short, bad}
 use Rattle.reader.specs.Chain.{reads}
+use Rattle.parts.specs.declared.Error.{Error}
+use Rattle.parts.specs.declared.Fault.{Fault}
 use Rattle.parts.specs.declared.Piece.{Piece}
-use Rattle.parts.specs.Answers.{piece}
+use Rattle.parts.specs.Answers.{piece, fault}
 
 -- no byte of the word yet, or one or more from a position on
 pub data Word : Type 0 where
   none : Word
   some : ℕ → Word
 
-abbrev pub wordStep : {E : Type 0} → (ℕ → Bool) → ℕ → E → Step Word Piece E
-wordStep class end e none p b = cond (class b) (keep (some p)) (refuse e)
-wordStep class end e (some a) p b = cond (class b) (keep (some a)) (cond (eqb b end) (give (piece a p)) (refuse e))
+abbrev pub wordStep : (ℕ → Bool) → ℕ → Error → Step Word Piece Fault
+wordStep class end e none p b = cond (class b) (keep (some p)) (refuse (fault e p))
+wordStep class end e (some a) p b = cond (class b) (keep (some a)) (cond (eqb b end) (give (piece a p)) (refuse (fault e p)))
 
-abbrev pub word : {E : Type 0} → (ℕ → Bool) → ℕ → E → List ℕ → ℕ → Answer (Unit {0}) Piece E
+abbrev pub word : (ℕ → Bool) → ℕ → Error → List ℕ → ℕ → Answer (Unit {0}) Piece Fault
 word class end e xs at = reads (wordStep class end e) none xs at
 
-module _ {E : Type 0} (class : ℕ → Bool) (end : ℕ) (e : E) (xs : List ℕ) (at : ℕ) where
+module _ (class : ℕ → Bool) (end : ℕ) (e : Error) (xs : List ℕ) (at : ℕ) where
   pub word-none : length xs ≤ at → short tt ≡ word class end e xs at
   word-none h = rw (run-out (wordStep class end e) none xs at h)
 
-  pub word-not : at < length xs → class (getD xs at 0) ≡ false → bad e ≡ word class end e xs at
+  pub word-not : at < length xs → class (getD xs at 0) ≡ false → bad (fault e at) ≡ word class end e xs at
   word-not h c = rw (run-in (wordStep class end e) none xs at h, c)
 
   module _ {r : ℕ} (h : at < length xs) (c : class (getD xs at 0) ≡ true) (k : Skipped class xs (at + 1) r) where
@@ -47,7 +49,7 @@ module _ {E : Type 0} (class : ℕ → Bool) (end : ℕ) (e : E) (xs : List ℕ)
     pub word-end : r < length xs → getD xs r 0 ≡ end → got (piece at r) (r + 1) ≡ word class end e xs at
     word-end l t = rw (word-some, run-in (wordStep class end e) (some at) xs r l, k .stop l, eq-eqb _ _ t)
 
-    pub word-bad : r < length xs → (getD xs r 0 ≡ end → ⊥) → bad e ≡ word class end e xs at
+    pub word-bad : r < length xs → (getD xs r 0 ≡ end → ⊥) → bad (fault e r) ≡ word class end e xs at
     word-bad l t = rw (word-some, run-in (wordStep class end e) (some at) xs r l, k .stop l, ne-eqb _ _ t)
 
 -- what proves a function that reads a word

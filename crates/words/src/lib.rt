@@ -7,6 +7,7 @@ ghost use Rattle.parts.specs.Answers.{found};
 ghost use Rattle.words.specs.Word.{word};
 ghost use Rattle.words.specs.Target.{target as targetAt, targetByte};
 use parts::Error;
+use parts::Fault;
 use parts::Found;
 use parts::Piece;
 
@@ -18,7 +19,10 @@ pub fn token(s: &[u8], at: usize, end: u8, error: Error) -> Found
         return Found::More;
     }
     if !octets::is_token(s[at]) {
-        return Found::Bad(error);
+        return Found::Bad(Fault {
+            error,
+            position: at,
+        });
     }
     let stop = skips::skip_token(s, at + 1);
     if s.len() <= stop {
@@ -33,7 +37,10 @@ pub fn token(s: &[u8], at: usize, end: u8, error: Error) -> Found
             stop + 1,
         )
     } else {
-        Found::Bad(error)
+        Found::Bad(Fault {
+            error,
+            position: stop,
+        })
     }
 }
 
@@ -67,17 +74,26 @@ pub fn target(s: &[u8], at: usize, ascii: bool) -> Found
         return Found::More;
     }
     if !is_target_byte(s[at], ascii) {
-        return Found::Bad(Error::Token);
+        return Found::Bad(Fault {
+            error: Error::Token,
+            position: at,
+        });
     }
     let gap = target_end(s, at + 1, ascii);
     if s.len() <= gap {
         return Found::More;
     }
     if s[gap] != 32 {
-        return Found::Bad(Error::Token);
+        return Found::Bad(Fault {
+            error: Error::Token,
+            position: gap,
+        });
     }
     if !utf8::is_utf8(&s[at..gap]) {
-        return Found::Bad(Error::Token);
+        return Found::Bad(Fault {
+            error: Error::Token,
+            position: gap,
+        });
     }
     Found::At(
         Piece {

@@ -18,7 +18,7 @@ pub struct Header {
 
 /// The seven errors of a head.
 #[derive(Clone, Copy, Debug, PartialEq, Eq)]
-pub enum Fault {
+pub enum HeadError {
     HeaderName,
     HeaderValue,
     NewLine,
@@ -28,15 +28,15 @@ pub enum Fault {
     Version,
 }
 
-impl Fault {
-    pub const ALL: [Fault; 7] = [
-        Fault::HeaderName,
-        Fault::HeaderValue,
-        Fault::NewLine,
-        Fault::Status,
-        Fault::Token,
-        Fault::TooManyHeaders,
-        Fault::Version,
+impl HeadError {
+    pub const ALL: [HeadError; 7] = [
+        HeadError::HeaderName,
+        HeadError::HeaderValue,
+        HeadError::NewLine,
+        HeadError::Status,
+        HeadError::Token,
+        HeadError::TooManyHeaders,
+        HeadError::Version,
     ];
 }
 
@@ -46,7 +46,12 @@ pub enum Outcome {
     /// The head is whole, and this many bytes were read.
     Complete(usize),
     Incomplete,
-    Error(Fault),
+    /// No head that fits the slots begins here, as the byte at this position decided; for
+    /// TooManyHeaders that is the first byte of the header that had no slot.
+    Error {
+        error: HeadError,
+        position: usize,
+    },
 }
 
 /// A reason that was read. An empty one has no place, since httparse answers a constant there.
@@ -67,9 +72,15 @@ pub struct Slots {
 /// How the reading of a chunk size line ended.
 #[derive(Clone, Copy, Debug, PartialEq, Eq)]
 pub enum ChunkSize {
-    Complete { end: usize, size: u64 },
+    Complete {
+        end: usize,
+        size: u64,
+    },
     Incomplete,
-    Error,
+    /// No chunk size line begins here, as the byte at this position decided.
+    Error {
+        position: usize,
+    },
 }
 
 /// All that a call answers or leaves behind; `None` is a field that was not set.
@@ -108,16 +119,16 @@ impl fmt::Display for Header {
     }
 }
 
-impl fmt::Display for Fault {
+impl fmt::Display for HeadError {
     fn fmt(&self, formatter: &mut fmt::Formatter<'_>) -> fmt::Result {
         formatter.write_str(match self {
-            Fault::HeaderName => "HeaderName",
-            Fault::HeaderValue => "HeaderValue",
-            Fault::NewLine => "NewLine",
-            Fault::Status => "Status",
-            Fault::Token => "Token",
-            Fault::TooManyHeaders => "TooManyHeaders",
-            Fault::Version => "Version",
+            HeadError::HeaderName => "HeaderName",
+            HeadError::HeaderValue => "HeaderValue",
+            HeadError::NewLine => "NewLine",
+            HeadError::Status => "Status",
+            HeadError::Token => "Token",
+            HeadError::TooManyHeaders => "TooManyHeaders",
+            HeadError::Version => "Version",
         })
     }
 }
@@ -127,7 +138,7 @@ impl fmt::Display for Outcome {
         match self {
             Outcome::Complete(end) => write!(formatter, "complete {end}"),
             Outcome::Incomplete => formatter.write_str("incomplete"),
-            Outcome::Error(fault) => write!(formatter, "error {fault}"),
+            Outcome::Error { error, position } => write!(formatter, "error {error} at {position}"),
         }
     }
 }
@@ -158,7 +169,9 @@ impl fmt::Display for ChunkSize {
         match self {
             ChunkSize::Complete { end, size } => write!(formatter, "complete {end} size={size}"),
             ChunkSize::Incomplete => formatter.write_str("incomplete"),
-            ChunkSize::Error => formatter.write_str("error InvalidChunkSize"),
+            ChunkSize::Error { position } => {
+                write!(formatter, "error InvalidChunkSize at {position}")
+            }
         }
     }
 }

@@ -38,7 +38,7 @@ impl Answer {
 #[cfg(test)]
 mod tests {
     use super::*;
-    use crate::{Fault, Header, Outcome, Piece, Slots};
+    use crate::{HeadError, Header, Outcome, Piece, Slots};
 
     const HEADER: Header = Header {
         name: Piece {
@@ -76,7 +76,7 @@ mod tests {
         for (call, text) in [
             (
                 Call::Request,
-                "error Token method=- target=- version=- headers=[] untouched=0",
+                "error Token at 0 method=- target=- version=- headers=[] untouched=0",
             ),
             (
                 Call::Response,
@@ -84,7 +84,7 @@ mod tests {
             ),
             (
                 Call::Response,
-                "error Status version=0 code=- reason=- headers=[] untouched=4",
+                "error Status at 10 version=0 code=- reason=- headers=[] untouched=4",
             ),
             (
                 Call::Response,
@@ -93,7 +93,7 @@ mod tests {
             (Call::Headers, "complete 2 headers=[] untouched=4"),
             (Call::ChunkSize, "complete 3 size=0"),
             (Call::ChunkSize, "incomplete"),
-            (Call::ChunkSize, "error InvalidChunkSize"),
+            (Call::ChunkSize, "error InvalidChunkSize at 16"),
         ] {
             assert_eq!(Answer::read(call, text).unwrap().to_string(), text);
         }
@@ -101,8 +101,8 @@ mod tests {
 
     #[test]
     fn every_error_name_is_read() {
-        for fault in Fault::ALL {
-            let text = format!("error {fault} headers=[] untouched=0");
+        for error in HeadError::ALL {
+            let text = format!("error {error} at 7 headers=[] untouched=0");
             assert_eq!(
                 Answer::read(Call::Headers, &text).unwrap().to_string(),
                 text
@@ -144,6 +144,26 @@ mod tests {
                 Call::Headers,
                 "error InvalidChunkSize",
                 "is no error of a head",
+            ),
+            (
+                Call::ChunkSize,
+                "error InvalidChunkSize",
+                "ends where `at` is expected",
+            ),
+            (
+                Call::Headers,
+                "error Token headers=[]",
+                "`at` is expected where `headers=[]` stands",
+            ),
+            (
+                Call::Headers,
+                "error Token at",
+                "ends where the error's position",
+            ),
+            (
+                Call::Headers,
+                "error Token at x",
+                "behind `at`: `x` is no number",
             ),
             (
                 Call::Headers,

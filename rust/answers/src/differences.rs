@@ -74,12 +74,12 @@ mod tests {
     #[test]
     fn pairs_are_read_and_other_lines_ignored() {
         let text = "# Title\n\n- Input: `chunk-size, default, 0 slots, \"`, ;\\r\"`\n\
-                    - Answer: `error InvalidChunkSize`\n- Why: because\n";
+                    - Answer: `error InvalidChunkSize at 0`\n- Why: because\n";
         let pairs = pairs(text).unwrap();
         assert_eq!(pairs.len(), 1);
         assert_eq!(pairs[0].line, 3);
         assert_eq!(pairs[0].query.input, b"`, ;\r");
-        assert_eq!(pairs[0].answer.to_string(), "error InvalidChunkSize");
+        assert_eq!(pairs[0].answer.to_string(), "error InvalidChunkSize at 0");
     }
 
     #[test]

@@ -1,7 +1,7 @@
 //! Headreader's C functions as include/headreader.h has them, and their numbers; whoever calls one
 //! links libheadreader.a. The crate `headreader` has its own, since it depends on nothing.
 
-use crate::Fault;
+use crate::HeadError;
 
 extern "C" {
     pub fn hr_request(
@@ -49,15 +49,15 @@ pub const CODE: u64 = 8;
 pub const REASON: u64 = 16;
 
 /// What a function returns for an error.
-pub fn number(fault: Fault) -> u32 {
-    match fault {
-        Fault::HeaderName => 2,
-        Fault::HeaderValue => 3,
-        Fault::NewLine => 4,
-        Fault::Status => 5,
-        Fault::Token => 6,
-        Fault::TooManyHeaders => 7,
-        Fault::Version => 8,
+pub fn number(error: HeadError) -> u32 {
+    match error {
+        HeadError::HeaderName => 2,
+        HeadError::HeaderValue => 3,
+        HeadError::NewLine => 4,
+        HeadError::Status => 5,
+        HeadError::Token => 6,
+        HeadError::TooManyHeaders => 7,
+        HeadError::Version => 8,
     }
 }
 
@@ -92,7 +92,7 @@ mod tests {
             ("HR_KNOWS_REASON", REASON),
             ("HR_ASCII_TARGETS", u64::from(ASCII_TARGETS)),
         ];
-        let errors = [
+        let names = [
             "HR_HEADER_NAME",
             "HR_HEADER_VALUE",
             "HR_NEW_LINE",
@@ -101,8 +101,8 @@ mod tests {
             "HR_TOO_MANY_HEADERS",
             "HR_VERSION",
         ];
-        let faults = Fault::ALL.map(|fault| u64::from(number(fault)));
-        numbers.extend(errors.into_iter().zip(faults));
+        let errors = HeadError::ALL.map(|error| u64::from(number(error)));
+        numbers.extend(names.into_iter().zip(errors));
         assert_eq!(numbers.into_iter().collect::<HashMap<_, _>>(), defined());
     }
 }

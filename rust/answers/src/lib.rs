@@ -17,7 +17,7 @@ mod random;
 pub mod recorded;
 mod settings;
 
-pub use answer::{Answer, ChunkSize, Fault, Header, Outcome, Piece, Reason, Slots};
+pub use answer::{Answer, ChunkSize, HeadError, Header, Outcome, Piece, Reason, Slots};
 pub use call::Call;
 pub use example::Example;
 pub use query::Query;

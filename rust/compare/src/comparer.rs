@@ -2,6 +2,7 @@
 
 use crate::numbers::Numbers;
 use crate::plain::RoundTrip;
+use crate::position::{is_error, Search};
 use crate::shrink::shrink;
 use crate::{expected, ours, text, Case, Tally};
 use answers::Call;
@@ -15,6 +16,7 @@ pub struct Comparer {
     library: Box<Library>,
     ours: Numbers,
     expected: Numbers,
+    search: Search,
     round_trip: RoundTrip,
     tally: Tally,
 }
@@ -31,6 +33,7 @@ impl Comparer {
             library: Box::new(library),
             ours: Numbers::default(),
             expected: Numbers::default(),
+            search: Search::default(),
             round_trip: RoundTrip::default(),
             tally: Tally::default(),
         }
@@ -43,8 +46,21 @@ impl Comparer {
             panic!("{}", self.report(case));
         }
         self.tally.count(self.expected.status);
+        if is_error(self.expected.status) {
+            self.tally.count_position();
+        }
         if is_complete_head(case, &self.expected) {
             self.send_round(case);
+        }
+    }
+
+    /// Compares the case, and panics also if its error lies elsewhere when httparse is asked about
+    /// every beginning on its own.
+    pub fn compare_by_every_beginning(&mut self, case: &Case) {
+        self.compare(case);
+        if is_error(self.expected.status) {
+            let found = self.search.by_every_beginning(case, self.expected.status);
+            assert_eq!(found, self.expected.out.numbers()[0], "{case}");
         }
     }
 
@@ -81,7 +97,18 @@ impl Comparer {
         (self.library)(case, &mut self.ours);
         self.expected.lend(case.room());
         expected::read(case, &mut self.expected);
+        if is_error(self.expected.status) {
+            self.expect_position(case);
+        }
         self.ours != self.expected
+    }
+
+    /// Writes where httparse's error lies to what is expected; ours is the guess.
+    fn expect_position(&mut self, case: &Case) {
+        let guess = self.ours.out.numbers()[0];
+        let status = self.expected.status;
+        let position = self.search.position(case, status, Some(guess));
+        self.expected.out.numbers_mut()[0] = position;
     }
 
     /// What is said of a case on which the two differ, with the shortest input that shows it.
@@ -116,13 +143,17 @@ mod tests {
 
     /// Every call, complete, incomplete and refused, with written slots, free ones and a remainder,
     /// and some under the setting.
-    const CASES: [Case; 12] = [
+    const CASES: [Case; 16] = [
         case(Call::Request, b"GET / HTTP/1.1\r\nA: b\r\n\r\n"),
         case(Call::Request, b"GET / HTTP/1.0\nA: b\n"),
         case(Call::Request, b"GET /\xff "),
         case(Call::Response, b"HTTP/1.1 200 OK\r\nA: b\r\n\r\n"),
         case(Call::Response, b"HTTP/1.0 200\n:"),
         case(Call::Headers, b"A: b\r\n\r\n"),
+        case(Call::Headers, b"A: b\r\nC: d\r\nE: f\r\nG: h\r\n"),
+        case(Call::Headers, b"A: b\nC: d\n\r\r"),
+        case(Call::Request, b"\r\nGET / HTTP/1.1\nA: b\rc"),
+        case(Call::ChunkSize, b"0123456789abcdef0\r\n"),
         case(Call::ChunkSize, b"1f\r\n"),
         case(Call::ChunkSize, b"g"),
         ascii(b"GET /\xc3\xa9 HTTP/1.1\r\nA: b\r\n\r\n"),
@@ -152,10 +183,19 @@ mod tests {
         }
     }
 
+    /// httparse, with the positions of its errors.
+    fn httparse(case: &Case, numbers: &mut Numbers) {
+        expected::read(case, numbers);
+        if is_error(numbers.status) {
+            let position = Search::default().by_every_beginning(case, numbers.status);
+            numbers.out.numbers_mut()[0] = position;
+        }
+    }
+
     /// Whether httparse's own answer is told from one that was changed.
     fn notices(case: &Case, change: impl Fn(&mut Numbers) + 'static) -> bool {
         let changed = move |case: &Case, numbers: &mut Numbers| {
-            expected::read(case, numbers);
+            httparse(case, numbers);
             change(numbers);
         };
         Comparer::of("a changed httparse", changed).differ(case)
@@ -183,7 +223,7 @@ mod tests {
         for case in &CASES {
             let mut expected = Numbers::default();
             expected.lend(case.room());
-            expected::read(case, &mut expected);
+            httparse(case, &mut expected);
             for (place, &right) in lent(&mut expected).iter().enumerate() {
                 for wrong in [right ^ 1, right.wrapping_add(1), 0, UNTOUCHED] {
                     let noticed = notices(case, move |numbers| lent(numbers)[place] = wrong);
@@ -203,6 +243,89 @@ mod tests {
         assert_each_is_noticed(|numbers| numbers.slots.with_guards_mut());
     }
 
+    /// Too many headers of different lengths, with every number of slots, and what stands where.
+    const HEADERS: &[u8] = b"GET / HTTP/1.1\r\nA: b\r\nCC:dd\nEEE:  f \r\nG:\r\n\r\n";
+    const NAMES: [u64; 4] = [16, 22, 28, 38];
+
+    fn request_with_slots(slots: usize) -> Case<'static> {
+        Case {
+            slots,
+            ..case(Call::Request, HEADERS)
+        }
+    }
+
+    #[test]
+    fn the_position_of_another_header_is_noticed() {
+        for (slots, &right) in NAMES.iter().enumerate() {
+            for wrong in 0..HEADERS.len() as u64 + 2 {
+                let change = move |numbers: &mut Numbers| numbers.out.numbers_mut()[0] = wrong;
+                let noticed = notices(&request_with_slots(slots), change);
+                assert_eq!(noticed, wrong != right, "{slots} slots: {wrong}");
+            }
+        }
+    }
+
+    #[test]
+    fn every_other_position_is_noticed() {
+        for case in &CASES {
+            let mut expected = Numbers::default();
+            expected.lend(case.room());
+            httparse(case, &mut expected);
+            if !is_error(expected.status) {
+                continue;
+            }
+            let right = expected.out.numbers()[0];
+            for wrong in (0..case.input.len() as u64 + 2).chain([u64::MAX, right.wrapping_sub(1)]) {
+                let change = move |numbers: &mut Numbers| numbers.out.numbers_mut()[0] = wrong;
+                assert_eq!(notices(case, change), wrong != right, "{case}: {wrong}");
+            }
+        }
+    }
+
+    /// A library whose positions are right only where nothing stands behind them.
+    #[test]
+    fn a_position_that_bytes_behind_it_move_is_noticed() {
+        let moved = |case: &Case, numbers: &mut Numbers| {
+            httparse(case, numbers);
+            let position = &mut numbers.out.numbers_mut()[0];
+            *position += u64::from(*position + 1 < case.input.len() as u64);
+        };
+        let mut comparer = Comparer::of("a wrong library", moved);
+        let whole = case(Call::Request, b"GET /\x00 HTTP/1.1");
+        let least = case(Call::Request, b"GET /\x00");
+        assert!(!comparer.differ(&least));
+        assert!(comparer.differ(&whole));
+        assert!(!comparer.differ(&least));
+    }
+
+    /// A library that knows no positions.
+    #[test]
+    #[should_panic(
+        expected = "httparse without positions and httparse differ on this query (numbers lent: 11):
+request\tdefault\t2\t\"a/\"
+httparse without positions: error Token position=0 given=0 known=0 method=0+0 target=0+0 version=0 \
+slots=[] and 11 untouched numbers
+httparse: error Token position=1 given=0 known=0 method=0+0 target=0+0 version=0 \
+slots=[] and 11 untouched numbers"
+    )]
+    fn positions_that_are_all_0_are_told() {
+        let mut comparer = Comparer::of("httparse without positions", expected::read);
+        comparer.compare(&case(Call::Request, b"GET /\x00 HTTP/1.1"));
+    }
+
+    #[test]
+    fn positions_are_counted() {
+        let mut comparer = Comparer::of("httparse", httparse);
+        for case in &CASES {
+            comparer.compare_by_every_beginning(case);
+        }
+        comparer.tally().assert_all_placed();
+        assert!(comparer
+            .tally()
+            .to_string()
+            .contains(" 9 errors), 9 positions"));
+    }
+
     #[test]
     fn headreader_is_what_is_compared() {
         for case in &CASES {
@@ -214,7 +337,7 @@ mod tests {
 
     /// A library that takes 0x80 for an error in a value wherever it stands.
     fn wrong_at_0x80(case: &Case, numbers: &mut Numbers) {
-        expected::read(case, numbers);
+        httparse(case, numbers);
         if case.input.contains(&0x80) {
             numbers.status = 3;
         }
@@ -224,9 +347,9 @@ mod tests {
     #[should_panic(
         expected = "a wrong library and httparse differ on this query (numbers lent: 11):
 request\tdefault\t2\t\"\\x80\"
-a wrong library: error HeaderValue end=0 given=0 known=0 method=0+0 target=0+0 version=0 \
+a wrong library: error HeaderValue position=0 given=0 known=0 method=0+0 target=0+0 version=0 \
 slots=[] and 11 untouched numbers
-httparse: error Token end=0 given=0 known=0 method=0+0 target=0+0 version=0 \
+httparse: error Token position=0 given=0 known=0 method=0+0 target=0+0 version=0 \
 slots=[] and 11 untouched numbers"
     )]
     fn a_difference_is_told_with_the_shortest_input() {
@@ -297,7 +420,7 @@ request\tdefault\t2\t\"a \\xe9\"
 with targets in plain ASCII, and httparse behind a filter
 a wrong setting: incomplete end=0 given=0 known=1 method=0+1 target=0+0 version=0 \
 slots=[] and 11 untouched numbers
-httparse: error Token end=0 given=0 known=1 method=0+1 target=0+0 version=0 \
+httparse: error Token position=2 given=0 known=1 method=0+1 target=0+0 version=0 \
 slots=[] and 11 untouched numbers"
     )]
     fn a_difference_by_the_setting_is_told_with_it() {

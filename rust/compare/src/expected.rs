@@ -4,9 +4,11 @@
 use crate::numbers::Numbers;
 use crate::{theirs, Case};
 use answers::functions::{number, INCOMPLETE, METHOD};
-use answers::Fault;
+use answers::HeadError;
 
 /// Writes the answer; `numbers` must have been lent with the room of the case.
+///
+/// An error's position is 0 here, since httparse does not tell it: [`crate::position`] asks for it.
 ///
 /// The filter reads nothing itself. It asks httparse for all in front of the first byte beyond
 /// ASCII: if that ends in the target, the byte is refused with what is known by then, and else it
@@ -15,7 +17,7 @@ pub fn read(case: &Case, numbers: &mut Numbers) {
     if let Some(ascii) = case.ascii_part() {
         theirs::read(&ascii, numbers);
         if ends_in_target(numbers) {
-            numbers.status = number(Fault::Token);
+            numbers.status = number(HeadError::Token);
             return;
         }
         numbers.lend(case.room());

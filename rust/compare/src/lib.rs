@@ -9,6 +9,7 @@ pub mod heads;
 pub mod numbers;
 mod ours;
 pub mod plain;
+mod position;
 pub mod row;
 mod shrink;
 pub mod starts;

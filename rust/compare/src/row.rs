@@ -1,6 +1,7 @@
 //! Heads one behind another, read by Headreader and, head by head, by httparse.
 
 use crate::numbers::{Lent, Numbers, SLOT, UNTOUCHED};
+use crate::position::{is_error, Search};
 use crate::{expected, Case};
 use answers::Call;
 
@@ -29,22 +30,24 @@ extern "C" {
 /// The status of a row that has more heads than there is room for their ends.
 pub const FULL: u32 = 10;
 
-/// Why the reading stopped, how many heads were read, the position behind them, and all of the ends.
+/// Why the reading stopped, how many heads were read, the position behind them, where the error lies
+/// if it was one and else 0, and all of the ends.
 #[derive(Debug, PartialEq, Eq)]
 pub struct Row {
     pub status: u32,
     pub count: u64,
     pub end: u64,
+    pub position: u64,
     pub ends: Vec<u64>,
 }
 
 /// What Headreader answers, with this many slots and room for this many ends; the setting is for
 /// requests.
 pub fn ours(call: Call, input: &[u8], slots: usize, heads: usize, ascii_targets: bool) -> Row {
-    let [mut lent, mut ends, mut out] = [slots * SLOT, heads, 2].map(Lent::of);
+    let [mut lent, mut ends, mut out] = [slots * SLOT, heads, 3].map(Lent::of);
     let (start, length, room) = (input.as_ptr(), input.len(), slots * SLOT);
     let (lent_to, ends_to, out_to) = (lent.pointer(), ends.pointer(), out.pointer());
-    // SAFETY: each pointer is to as many live elements as its length says, two for `out`, and
+    // SAFETY: each pointer is to as many live elements as its length says, three for `out`, and
     // those to be written overlap nothing.
     let status = unsafe {
         match call {
@@ -67,6 +70,7 @@ pub fn ours(call: Call, input: &[u8], slots: usize, heads: usize, ascii_targets:
         status,
         count: out.numbers()[0],
         end: out.numbers()[1],
+        position: out.numbers()[2],
         ends: ends.numbers().to_vec(),
     }
 }
@@ -76,7 +80,7 @@ pub fn ours(call: Call, input: &[u8], slots: usize, heads: usize, ascii_targets:
 pub fn theirs(call: Call, input: &[u8], slots: usize, heads: usize, ascii_targets: bool) -> Row {
     let mut ends = vec![UNTOUCHED; heads];
     let mut numbers = Numbers::default();
-    let (mut at, mut count) = (0, 0);
+    let (mut at, mut count, mut position) = (0, 0, 0);
     let status = loop {
         if at == input.len() {
             break 0;
@@ -93,6 +97,9 @@ pub fn theirs(call: Call, input: &[u8], slots: usize, heads: usize, ascii_target
         };
         numbers.lend(case.room());
         expected::read(&case, &mut numbers);
+        if is_error(numbers.status) {
+            position = at as u64 + Search::default().position(&case, numbers.status, None);
+        }
         if numbers.status != 0 {
             break numbers.status;
         }
@@ -104,6 +111,7 @@ pub fn theirs(call: Call, input: &[u8], slots: usize, heads: usize, ascii_target
         status,
         count: count as u64,
         end: at as u64,
+        position,
         ends,
     }
 }

@@ -5,10 +5,12 @@ use answers::Call;
 use std::fmt;
 use std::ops::AddAssign;
 
-/// The number of comparisons for each status, and of the round trips through the plain form.
+/// The number of comparisons for each status, of the positions of errors, and of the round trips
+/// through the plain form.
 #[derive(Clone, Copy, Default)]
 pub struct Tally {
     statuses: [u64; STATUSES.len()],
+    positions: u64,
     round_trips: u64,
 }
 
@@ -16,6 +18,10 @@ impl Tally {
     /// Counts one comparison; a status is an index, since httparse's answer was translated to it.
     pub fn count(&mut self, status: u32) {
         self.statuses[status as usize] += 1;
+    }
+
+    pub fn count_position(&mut self) {
+        self.positions += 1;
     }
 
     pub fn count_round_trip(&mut self) {
@@ -30,8 +36,21 @@ impl Tally {
         );
     }
 
+    /// Panics if the position of an error was not compared.
+    pub fn assert_all_placed(&self) {
+        assert_eq!(
+            self.positions,
+            self.errors(),
+            "not every error's position was compared"
+        );
+    }
+
     pub fn complete(&self) -> u64 {
         self.statuses[0]
+    }
+
+    fn errors(&self) -> u64 {
+        self.statuses[2..].iter().sum()
     }
 
     pub fn total(&self) -> u64 {
@@ -65,19 +84,21 @@ impl AddAssign for Tally {
         for (sum, more) in self.statuses.iter_mut().zip(other.statuses) {
             *sum += more;
         }
+        self.positions += other.positions;
         self.round_trips += other.round_trips;
     }
 }
 
 impl fmt::Display for Tally {
     fn fmt(&self, formatter: &mut fmt::Formatter<'_>) -> fmt::Result {
-        let refused: u64 = self.statuses[2..].iter().sum();
         write!(
             formatter,
-            "{} comparisons ({} complete, {} incomplete, {refused} errors)",
+            "{} comparisons ({} complete, {} incomplete, {} errors), {} positions",
             self.total(),
             self.statuses[0],
-            self.statuses[1]
+            self.statuses[1],
+            self.errors(),
+            self.positions
         )?;
         if self.round_trips > 0 {
             write!(formatter, " and {} round trips", self.round_trips)?;

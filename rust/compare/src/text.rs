@@ -1,6 +1,7 @@
 //! The numbers of an answer as text for people.
 
 use crate::numbers::{Lent, Numbers, OUT, SLOT, UNTOUCHED};
+use crate::position::is_error;
 use answers::Call;
 
 /// What a call returns, by number.
@@ -22,7 +23,7 @@ pub fn line(call: Call, numbers: &Numbers) -> String {
     format!(
         "{} {} {}{}",
         status(numbers.status),
-        out(call, numbers.out.numbers()),
+        out(call, numbers),
         slots(numbers.slots.numbers()),
         guards(numbers)
     )
@@ -36,27 +37,29 @@ fn status(status: u32) -> String {
 }
 
 /// What each number of `out` means; those with an index are to be 0.
-fn names(call: Call) -> [&'static str; OUT] {
+fn names(call: Call, status: u32) -> [&'static str; OUT] {
+    let place = if is_error(status) { "position" } else { "end" };
     match call {
         Call::Request => [
-            "end", "given", "known", "method", "+", "target", "+", "version",
+            place, "given", "known", "method", "+", "target", "+", "version",
         ],
         Call::Response => [
-            "end", "given", "known", "version", "code", "reason", "+", "out[7]",
+            place, "given", "known", "version", "code", "reason", "+", "out[7]",
         ],
         Call::Headers => [
-            "end", "given", "out[2]", "out[3]", "out[4]", "out[5]", "out[6]", "out[7]",
+            place, "given", "out[2]", "out[3]", "out[4]", "out[5]", "out[6]", "out[7]",
         ],
         Call::ChunkSize => [
-            "end", "size", "out[2]", "out[3]", "out[4]", "out[5]", "out[6]", "out[7]",
+            place, "size", "out[2]", "out[3]", "out[4]", "out[5]", "out[6]", "out[7]",
         ],
     }
 }
 
 /// The fields with their names; a length follows its offset as OFFSET+LENGTH.
-fn out(call: Call, out: &[u64]) -> String {
+fn out(call: Call, numbers: &Numbers) -> String {
     let mut text = String::new();
-    for (name, &field) in names(call).iter().zip(out) {
+    let names = names(call, numbers.status);
+    for (name, &field) in names.iter().zip(numbers.out.numbers()) {
         text += &match *name {
             "+" => format!("+{}", number(field)),
             name => format!(" {name}={}", number(field)),

@@ -5,7 +5,7 @@ use crate::Case;
 use answers::functions::{
     number, CODE, COMPLETE, INCOMPLETE, INVALID_CHUNK_SIZE, METHOD, REASON, TARGET, VERSION,
 };
-use answers::{Call, Fault};
+use answers::{Call, HeadError};
 use httparse::{Error, Header, Status};
 
 /// What every slot holds before the call; known by its address, which no part of an input has.
@@ -141,19 +141,19 @@ fn status(result: &httparse::Result<usize>) -> u32 {
     match result {
         Ok(Status::Complete(_)) => COMPLETE,
         Ok(Status::Partial) => INCOMPLETE,
-        Err(error) => number(fault(*error)),
+        Err(error) => number(head_error(*error)),
     }
 }
 
-fn fault(error: Error) -> Fault {
+fn head_error(error: Error) -> HeadError {
     match error {
-        Error::HeaderName => Fault::HeaderName,
-        Error::HeaderValue => Fault::HeaderValue,
-        Error::NewLine => Fault::NewLine,
-        Error::Status => Fault::Status,
-        Error::Token => Fault::Token,
-        Error::TooManyHeaders => Fault::TooManyHeaders,
-        Error::Version => Fault::Version,
+        Error::HeaderName => HeadError::HeaderName,
+        Error::HeaderValue => HeadError::HeaderValue,
+        Error::NewLine => HeadError::NewLine,
+        Error::Status => HeadError::Status,
+        Error::Token => HeadError::Token,
+        Error::TooManyHeaders => HeadError::TooManyHeaders,
+        Error::Version => HeadError::Version,
     }
 }
 

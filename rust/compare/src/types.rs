@@ -8,6 +8,7 @@ mod ours;
 mod seen;
 mod theirs;
 
+use crate::position::Search;
 use crate::shrink::shrink;
 use crate::{Case, Tally};
 use seen::{ways, Seen, Way};
@@ -19,6 +20,7 @@ pub use theirs::texts as their_texts;
 pub struct TypesComparer {
     name: &'static str,
     caller: fn(&Case, Way) -> Seen,
+    search: Search,
     tally: Tally,
 }
 
@@ -32,6 +34,7 @@ impl TypesComparer {
         TypesComparer {
             name,
             caller,
+            search: Search::default(),
             tally: Tally::default(),
         }
     }
@@ -40,14 +43,28 @@ impl TypesComparer {
     pub fn compare(&mut self, case: &Case) {
         let ways = ways(case);
         for &way in ways {
-            let expected = expected(case, way);
-            if (self.caller)(case, way) != expected {
+            let [ours, expected] = self.see(case, way);
+            if ours != expected {
                 panic!("{}", self.report(case, way));
             }
             if way == ways[0] {
                 self.tally.count(expected.status());
+                if expected.position.is_some() {
+                    self.tally.count_position();
+                }
             }
         }
+    }
+
+    /// What the two callers see.
+    fn see(&mut self, case: &Case, way: Way) -> [Seen; 2] {
+        let ours = (self.caller)(case, way);
+        let mut expected = expected(case, way);
+        if way.has_positions() && expected.is_error() {
+            let status = expected.status();
+            expected.position = Some(self.search.position(case, status, ours.position));
+        }
+        [ours, expected]
     }
 
     pub fn tally(&self) -> Tally {
@@ -55,31 +72,31 @@ impl TypesComparer {
     }
 
     /// What is said of a case on which the two differ, with the shortest input that shows it.
-    fn report(&self, case: &Case, way: Way) -> String {
-        let differ = |case: &Case| (self.caller)(case, way) != expected(case, way);
-        let input = shrink(case.input, |input| differ(&Case { input, ..*case }));
+    fn report(&mut self, case: &Case, way: Way) -> String {
+        let input = shrink(case.input, |input| {
+            let [ours, expected] = self.see(&Case { input, ..*case }, way);
+            ours != expected
+        });
         let shortest = Case {
             input: &input,
             ..*case
         };
+        let [ours, expected] = self.see(&shortest, way);
         format!(
-            "callers of {} and httparse differ on this query ({way:?}):\n{shortest}\n{}: {:?}\nhttparse: {:?}",
-            self.name,
-            self.name,
-            (self.caller)(&shortest, way),
-            expected(&shortest, way)
+            "callers of {} and httparse differ on this query ({way:?}):\n{shortest}\n{}: {ours:?}\nhttparse: {expected:?}",
+            self.name, self.name,
         )
     }
 }
 
 /// What a caller of httparse sees, behind the filter of [`crate::expected`] where targets must be
-/// plain ASCII.
+/// plain ASCII; not where an error lies, which it cannot ask for.
 fn expected(case: &Case, way: Way) -> Seen {
     if let Some(ascii) = case.ascii_part() {
         let seen = theirs::call(&ascii, way);
         if seen.ends_in_target() {
             return Seen {
-                ended: vec![theirs::fault(httparse::Error::Token)],
+                ended: vec![theirs::refused(httparse::Error::Token)],
                 ..seen
             };
         }
@@ -164,9 +181,52 @@ mod tests {
         }
     }
 
+    #[test]
+    fn where_an_error_lies_is_seen() {
+        for (slots, input, way, position) in [
+            (2, &b"PUT /\0"[..], Way::Alone, Some(5)),
+            (2, b"PUT /\0", Way::Settings, Some(5)),
+            (2, b"PUT /\0", Way::Uninit, None),
+            (1, HEAD, Way::Alone, Some(23)),
+            (2, HEAD, Way::Alone, None),
+        ] {
+            let [ours, expected] = TypesComparer::of_headreader().see(&case(slots, input), way);
+            assert_eq!(ours.position, position);
+            assert_eq!(expected.position, position);
+        }
+    }
+
+    /// A caller that asks with one slot more, or else is told one byte too far.
+    fn wrong_position(case: &Case, way: Way) -> Seen {
+        let roomier = Case {
+            slots: case.slots + 1,
+            ..*case
+        };
+        let seen = ours::call(case, way);
+        let wrong = ours::call(&roomier, way).position;
+        Seen {
+            position: match wrong == seen.position {
+                true => wrong.map(|position| position + 1),
+                false => wrong,
+            },
+            ..seen
+        }
+    }
+
+    #[test]
+    fn a_position_that_is_wrong_is_noticed() {
+        for (slots, input) in [(2, &b"PUT /\0"[..]), (2, b" "), (1, HEAD), (0, HEAD)] {
+            for way in [Way::Alone, Way::Settings] {
+                let mut comparer = TypesComparer::of("a wrong position", wrong_position);
+                let [ours, expected] = comparer.see(&case(slots, input), way);
+                assert_ne!(ours, expected);
+            }
+        }
+    }
+
     /// A caller of a library that loses the list wherever 0x80 stands.
     fn wrong_at_0x80(case: &Case, way: Way) -> Seen {
-        let mut seen = theirs::call(case, way);
+        let mut seen = ours::call(case, way);
         if case.input.contains(&0x80) {
             seen.list = None;
         }
@@ -177,7 +237,7 @@ mod tests {
     #[should_panic(
         expected = "callers of a wrong library and httparse differ on this query (Alone):
 request\tdefault\t2\t\"\\x80\"
-a wrong library: Seen { ended: [Error { name: \"Token\", text: \"invalid token\" }]"
+a wrong library: Seen { ended: [Error { name: \"Token\", text: \"invalid token\" }], position: Some(0)"
     )]
     fn a_difference_is_told_with_the_shortest_input() {
         let long = [HEAD, &b"\x80".repeat(100)].concat();

@@ -77,6 +77,7 @@ fn compare_behind(call: Call, starts: &[Start], bytes: &[u8]) -> Tally {
     });
     assert_eq!(tally.total(), how_many(starts, bytes) * slots.len() as u64);
     tally.assert_all_came_back(tally.complete());
+    tally.assert_all_placed();
     tally
 }
 
@@ -127,6 +128,7 @@ fn by_the_types() {
     let strings = how_many(&starts, &bytes);
     assert_eq!(tally.total(), strings * 2 * slots.len() as u64);
     tally.assert_all_seen(Call::Request);
+    tally.assert_all_placed();
     println!("by the types, the setting on: {tally}, no difference");
 }
 
@@ -197,6 +199,7 @@ fn damaged_heads() {
         comparer.tally()
     });
     tally.assert_all_seen(Call::Request);
+    tally.assert_all_placed();
     let heads = jobs.len();
     println!("damaged copies of {heads} requests in ASCII (seed {SEED}): {tally}, no difference");
 }

@@ -57,6 +57,7 @@ fn damaged_heads() {
     for call in CALLS {
         tally.assert_all_seen(call);
     }
+    tally.assert_all_placed();
     let heads = jobs.len();
     println!("damaged copies of {heads} heads (seed {SEED}): {tally}, no difference");
 }

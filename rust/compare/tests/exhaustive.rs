@@ -27,6 +27,7 @@ fn compare_behind(call: Call, starts: &[Start], bytes: &[u8]) -> Tally {
     });
     let strings = how_many(starts, bytes);
     assert_eq!(tally.total(), strings * slot_counts(call).len() as u64);
+    tally.assert_all_placed();
     tally
 }
 

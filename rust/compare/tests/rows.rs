@@ -53,14 +53,14 @@ fn damaged(mut bytes: Vec<u8>, random: &mut Random) -> Vec<u8> {
 fn rows_of_heads() {
     let mut random = Random::new(SEED);
     let mut seen = [0; FULL as usize + 1];
-    let mut heads = 0;
+    let (mut heads, mut later) = (0, 0);
     for call in [Call::Request, Call::Response] {
         let shapes = short(call);
         for _ in 0..ROWS {
             let (good, ends) = row(&shapes, &mut random);
             let all = ours(call, &good, 100, ends.len(), false);
             assert_eq!((all.status, all.count), (0, ends.len() as u64));
-            assert_eq!(all.ends, ends);
+            assert_eq!((all.ends, all.position), (ends, 0));
             let damage = random.below(2) == 0;
             let input = if damage {
                 damaged(good, &mut random)
@@ -74,11 +74,13 @@ fn rows_of_heads() {
             assert_eq!(found, expected, "{call}: {}", input.escape_ascii());
             seen[found.status as usize] += 1;
             heads += found.count;
+            later += u64::from(found.position > found.end && found.count > 0);
         }
     }
     for status in [0, 1, 2, 3, 4, 5, 6, 7, 8, FULL as usize] {
         assert!(seen[status] > 0, "no row ended with status {status}");
     }
-    let rows = 2 * ROWS;
-    println!("{rows} rows of {heads} heads (seed {SEED}), compared with httparse head by head, no difference");
+    assert!(later > 1_000, "too few errors lie behind a good head");
+    let (rows, positions) = (2 * ROWS, seen[2..FULL as usize].iter().sum::<u64>());
+    println!("{rows} rows of {heads} heads and {positions} positions (seed {SEED}), compared with httparse head by head, no difference");
 }

@@ -60,6 +60,7 @@ fn compare_strings(call: Call) {
     let all = strings::how_many(&starts, bytes) * slots.len() as u64;
     assert_eq!(tally.total(), all);
     tally.assert_all_seen(call);
+    tally.assert_all_placed();
     let count = starts.len();
     println!("{call} by its types, all strings behind {count} starts: {tally}, no difference");
 }
@@ -105,6 +106,7 @@ fn damaged_heads() {
     for call in CALLS {
         tally.assert_all_seen(call);
     }
+    tally.assert_all_placed();
     let heads = jobs.len();
     println!(
         "damaged copies of {heads} heads by their types (seed {SEED}): {tally}, no difference"

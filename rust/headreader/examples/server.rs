@@ -2,7 +2,7 @@
 //!
 //! They arrive from memory, so that it needs no network: `cargo run --example server`.
 
-use headreader::{Error, Request, Status, EMPTY_HEADER};
+use headreader::{request_error_position, Error, Request, Status, EMPTY_HEADER};
 
 /// What arrives on a connection: heads are cut and joined as the network likes, and the last one
 /// has a space where none may be.
@@ -13,6 +13,9 @@ const ARRIVALS: [&[u8]; 4] = [
     b"9 HTTP/1.1\r\nHost : orders.wholesaler.example\r\n\r\n",
 ];
 
+/// How many headers a head may have.
+const MOST_HEADERS: usize = 16;
+
 /// How many bytes a head may have: else a sender could fill the memory with one that never ends.
 const LONGEST_HEAD: usize = 8_192;
 
@@ -22,7 +25,9 @@ fn main() {
         buffer.extend_from_slice(arrival);
         println!("{} bytes arrived", arrival.len());
         if let Err(error) = serve_all(&mut buffer) {
-            println!("400 Bad Request, {error}: the connection is closed");
+            let position = request_error_position(&buffer, MOST_HEADERS)
+                .expect("the same bytes are the same error");
+            println!("400 Bad Request, {error} at byte {position}: the connection is closed");
             return;
         }
         if buffer.len() > LONGEST_HEAD {
@@ -42,7 +47,7 @@ fn serve_all(buffer: &mut Vec<u8>) -> Result<(), Error> {
 
 /// Serves the request at the start of the buffer and tells where it ends, if it is whole.
 fn serve(buffer: &[u8]) -> Result<Option<usize>, Error> {
-    let mut headers = [EMPTY_HEADER; 16];
+    let mut headers = [EMPTY_HEADER; MOST_HEADERS];
     let mut request = Request::new(&mut headers);
     match request.parse(buffer)? {
         Status::Complete(end) => {

@@ -21,9 +21,11 @@ impl fmt::Display for InvalidChunkSize {
 ///
 /// assert_eq!(parse_chunk_size(b"1f;name=value\r\n.."), Ok(Status::Complete((15, 31))));
 /// ```
+///
+/// Where an error lies tells [`chunk_size_error_position`](crate::chunk_size_error_position).
 #[inline]
 pub fn parse_chunk_size(
     buf: &[u8],
 ) -> core::result::Result<Status<(usize, u64)>, InvalidChunkSize> {
-    library::chunk_size(buf)
+    library::chunk_size(buf).map_err(|_| InvalidChunkSize)
 }

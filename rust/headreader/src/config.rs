@@ -1,7 +1,7 @@
 //! Settings.
 
-use crate::library::ASCII_TARGETS;
-use crate::{Header, Request, Response, Result};
+use crate::library::{self, ASCII_TARGETS};
+use crate::{position, Header, Request, Response, Result};
 use core::mem::MaybeUninit;
 
 /// How lenient or strict the reading is.
@@ -121,5 +121,46 @@ impl ParserConfig {
         headers: &'headers mut [MaybeUninit<Header<'buf>>],
     ) -> Result<usize> {
         response.read_into(buf, headers, self.bits())
+    }
+
+    /// Where the error lies that [`parse_request`](ParserConfig::parse_request) answers on these
+    /// bytes with these settings and so many slots for headers, as
+    /// [`request_error_position`](crate::request_error_position) tells it without settings.
+    ///
+    /// ```
+    /// use headreader::{Error, ParserConfig, Request, EMPTY_HEADER};
+    ///
+    /// let buf = "GET /caf\u{e9} HTTP/1.1\r\n\r\n".as_bytes();
+    /// let mut headers = [EMPTY_HEADER; 16];
+    /// let mut request = Request::new(&mut headers);
+    /// let mut config = ParserConfig::default();
+    /// config.ascii_targets(true);
+    /// assert_eq!(config.parse_request(&mut request, buf), Err(Error::Token));
+    /// assert_eq!(config.request_error_position(buf, request.headers.len()), Some(8));
+    /// ```
+    pub fn request_error_position(&self, buf: &[u8], slots: usize) -> Option<usize> {
+        position::in_head(buf, slots, |slots| {
+            library::request(buf, slots, self.bits())
+        })
+    }
+
+    /// Where the error lies that [`parse_response`](ParserConfig::parse_response) answers on these
+    /// bytes with these settings and so many slots for headers, as
+    /// [`response_error_position`](crate::response_error_position) tells it without settings.
+    ///
+    /// ```
+    /// use headreader::{Error, ParserConfig, Response, EMPTY_HEADER};
+    ///
+    /// let buf = b"HTTP/1.1 200 OK\r\nA: b\rC: d\r\n\r\n";
+    /// let mut headers = [EMPTY_HEADER; 16];
+    /// let mut response = Response::new(&mut headers);
+    /// let config = ParserConfig::default();
+    /// assert_eq!(config.parse_response(&mut response, buf), Err(Error::HeaderValue));
+    /// assert_eq!(config.response_error_position(buf, response.headers.len()), Some(22));
+    /// ```
+    pub fn response_error_position(&self, buf: &[u8], slots: usize) -> Option<usize> {
+        position::in_head(buf, slots, |slots| {
+            library::response(buf, slots, self.bits())
+        })
     }
 }

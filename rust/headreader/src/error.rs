@@ -2,7 +2,8 @@
 
 use core::fmt;
 
-/// Why no head begins where one was to be read.
+/// Why no head begins where one was to be read. Where it lies tell
+/// [`request_error_position`](crate::request_error_position) and its like for the other calls.
 #[derive(Copy, Clone, PartialEq, Eq, Debug)]
 pub enum Error {
     /// A header's name has a byte that no name has, or none at all.

@@ -17,6 +17,8 @@ use crate::{Header, Result, Status};
 /// let read = parse_headers(b"Date: today\r\n\r\nmore", &mut headers);
 /// assert_eq!(read, Ok(Status::Complete((15, &[date][..]))));
 /// ```
+///
+/// Where an error lies tells [`headers_error_position`](crate::headers_error_position).
 #[inline]
 pub fn parse_headers<'b: 'h, 'h>(
     src: &'b [u8],
@@ -25,7 +27,7 @@ pub fn parse_headers<'b: 'h, 'h>(
     let Answer {
         result, headers, ..
     } = library::headers(src, dst.into());
-    match result? {
+    match result.map_err(|fault| fault.error)? {
         Status::Complete(end) => Ok(Status::Complete((end, headers))),
         Status::Partial => Ok(Status::Partial),
     }

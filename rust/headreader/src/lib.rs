@@ -61,6 +61,27 @@
 //! The package has both as programs that loop over a growing buffer: `cargo run --example server`
 //! and `cargo run --example client`.
 //!
+//! # Where an error lies
+//!
+//! An [`Error`] is httparse's, and tells no place. One more line does, by reading the same bytes again:
+//!
+//! ```
+//! use headreader::{request_error_position, Request, EMPTY_HEADER};
+//!
+//! let buffer = b"GET /orders HTTP/1.1\r\nHost : a\r\n\r\n";
+//! let mut headers = [EMPTY_HEADER; 16];
+//! let mut request = Request::new(&mut headers);
+//! if let Err(error) = request.parse(buffer) {
+//!     let position = request_error_position(buffer, request.headers.len()).unwrap();
+//!     assert_eq!(format!("{error} at {position}"), "invalid header name at 26");
+//! }
+//! ```
+//!
+//! The byte at that position decided: the bytes before it are partial, and with it they are this error.
+//! Only [`Error::TooManyHeaders`] lies at the first byte of the header that had no slot.
+//! [`response_error_position`], [`headers_error_position`] and [`chunk_size_error_position`] tell the
+//! same of the other calls, and [`ParserConfig`] has two functions for its settings.
+//!
 //! # In httparse's place
 //!
 //! For a program that sets nothing of [`ParserConfig`], this line in its `Cargo.toml` is the whole
@@ -69,6 +90,7 @@
 //! - [`ParserConfig`] does not have httparse's setters yet, so all that they set is off. Its setting
 //!   [`ascii_targets`](ParserConfig::ascii_targets) is not httparse's, and is shown for debugging
 //!   behind those that are.
+//! - The functions that tell where an error lies are ours.
 //! - An empty [`reason`](Response::reason) is the empty slice at the buffer's start. httparse gives
 //!   its place where a space stands behind the code and nothing behind that, and else a constant.
 //! - Only targets with 64-bit pointers are supported.
@@ -88,6 +110,7 @@ mod header;
 mod headers;
 mod library;
 mod piece;
+mod position;
 mod request;
 mod response;
 mod slots;
@@ -98,6 +121,10 @@ pub use config::ParserConfig;
 pub use error::Error;
 pub use header::{Header, EMPTY_HEADER};
 pub use headers::parse_headers;
+pub use position::{
+    chunk_size_error_position, headers_error_position, request_error_position,
+    response_error_position,
+};
 pub use request::Request;
 pub use response::Response;
 pub use status::{Result, Status};

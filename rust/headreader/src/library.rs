@@ -5,7 +5,7 @@
 //! and `untouched` (`docs/PROVED.md`).
 
 use crate::slots::Slots;
-use crate::{piece, Error, Header, InvalidChunkSize, Result, Status};
+use crate::{piece, Error, Header, Status};
 
 /// The numbers that every call writes.
 type Out = [usize; 8];
@@ -48,10 +48,16 @@ const VERSION: usize = 4;
 const CODE: usize = 8;
 const REASON: usize = 16;
 
+/// An error, and where it lies.
+pub struct Fault {
+    pub error: Error,
+    pub position: usize,
+}
+
 /// What a call answers: how it ended, what is known of the start line by then, and the headers
 /// given by then.
 pub struct Answer<'lent, 'buf, Line> {
-    pub result: Result<usize>,
+    pub result: Result<Status<usize>, Fault>,
     pub line: Line,
     pub headers: &'lent mut [Header<'buf>],
 }
@@ -84,7 +90,7 @@ pub fn request<'lent, 'buf>(
     // eight for `out`, and that what it writes is lent to it alone; what the slots hold does not
     // matter to it, and by `untouched` it is kept in those not given.
     let kind = unsafe { hr_request(start, length, numbers, room, &mut out, settings) };
-    let [end, given, known, method, method_length, target, target_length, version] = out;
+    let [place, given, known, method, method_length, target, target_length, version] = out;
     // SAFETY: that call was lent these slots and this buffer, and nothing has touched the slots
     // since.
     let headers = unsafe { slots.into_headers(given, buffer) };
@@ -97,7 +103,7 @@ pub fn request<'lent, 'buf>(
         is_in(known, TARGET).then(|| unsafe { piece::text(buffer, target, target_length) });
     let version = is_in(known, VERSION).then_some(version as u8);
     Answer {
-        result: result(kind, end),
+        result: result(kind, place),
         line: RequestLine {
             method,
             target,
@@ -119,7 +125,7 @@ pub fn response<'lent, 'buf>(
     let mut out = Out::default();
     // SAFETY: as for a request.
     let kind = unsafe { hr_response(start, length, numbers, room, &mut out, settings) };
-    let [end, given, known, version, code, reason, reason_length, _] = out;
+    let [place, given, known, version, code, reason, reason_length, _] = out;
     // SAFETY: that call was lent these slots and this buffer, and nothing has touched the slots
     // since.
     let headers = unsafe { slots.into_headers(given, buffer) };
@@ -130,7 +136,7 @@ pub fn response<'lent, 'buf>(
     let reason =
         is_in(known, REASON).then(|| unsafe { piece::text(buffer, reason, reason_length) });
     Answer {
-        result: result(kind, end),
+        result: result(kind, place),
         line: StatusLine {
             version,
             code,
@@ -150,27 +156,27 @@ pub fn headers<'lent, 'buf>(
     let mut out = Out::default();
     // SAFETY: as for a request.
     let kind = unsafe { hr_headers(start, length, slots.numbers(), slots.room(), &mut out) };
-    let [end, given, ..] = out;
+    let [place, given, ..] = out;
     Answer {
         // SAFETY: that call was lent these slots and this buffer, and nothing has touched the slots
         // since.
         headers: unsafe { slots.into_headers(given, buffer) },
         line: (),
-        result: result(kind, end),
+        result: result(kind, place),
     }
 }
 
-/// Reads a chunk size line.
+/// Reads a chunk size line; its one error is told by where it lies.
 #[inline]
-pub fn chunk_size(buffer: &[u8]) -> core::result::Result<Status<(usize, u64)>, InvalidChunkSize> {
+pub fn chunk_size(buffer: &[u8]) -> Result<Status<(usize, u64)>, usize> {
     let mut out = Out::default();
     // SAFETY: as for a request, but that nothing is lent.
     let kind = unsafe { hr_chunk_size(buffer.as_ptr(), buffer.len(), &mut out) };
-    let [end, size, ..] = out;
+    let [place, size, ..] = out;
     match kind {
-        0 => Ok(Status::Complete((end, size as u64))),
+        0 => Ok(Status::Complete((place, size as u64))),
         1 => Ok(Status::Partial),
-        9 => Err(InvalidChunkSize),
+        9 => Err(place),
         _ => unreachable!("no chunk size line is answered with {kind}"),
     }
 }
@@ -179,17 +185,22 @@ fn is_in(known: usize, field: usize) -> bool {
     known & field != 0
 }
 
-fn result(kind: u32, end: usize) -> Result<usize> {
-    match kind {
-        0 => Ok(Status::Complete(end)),
-        1 => Ok(Status::Partial),
-        2 => Err(Error::HeaderName),
-        3 => Err(Error::HeaderValue),
-        4 => Err(Error::NewLine),
-        5 => Err(Error::Status),
-        6 => Err(Error::Token),
-        7 => Err(Error::TooManyHeaders),
-        8 => Err(Error::Version),
+/// How a head ended: the place is its end where it is complete, and the position of an error.
+fn result(kind: u32, place: usize) -> Result<Status<usize>, Fault> {
+    let error = match kind {
+        0 => return Ok(Status::Complete(place)),
+        1 => return Ok(Status::Partial),
+        2 => Error::HeaderName,
+        3 => Error::HeaderValue,
+        4 => Error::NewLine,
+        5 => Error::Status,
+        6 => Error::Token,
+        7 => Error::TooManyHeaders,
+        8 => Error::Version,
         _ => unreachable!("no head is answered with {kind}"),
-    }
+    };
+    Err(Fault {
+        error,
+        position: place,
+    })
 }

@@ -43,7 +43,8 @@ impl<'headers, 'buf> Request<'headers, 'buf> {
     /// Reads the head that the buffer begins with, and tells how many bytes it has.
     ///
     /// On complete the list of headers is cut to those read, so a request that is read into again
-    /// has no room for more.
+    /// has no room for more. Where an error lies tells
+    /// [`request_error_position`](crate::request_error_position).
     #[inline]
     pub fn parse(&mut self, buf: &'buf [u8]) -> Result<usize> {
         ParserConfig::default().parse_request(self, buf)
@@ -71,10 +72,11 @@ impl<'headers, 'buf> Request<'headers, 'buf> {
         } = library::request(buffer, (&mut *self.headers).into(), settings);
         let given = headers.len();
         self.learn(line);
-        if result.is_ok_and(|status| status.is_complete()) {
+        let status = result.map_err(|fault| fault.error)?;
+        if status.is_complete() {
             self.headers = &mut mem::take(&mut self.headers)[..given];
         }
-        result
+        Ok(status)
     }
 
     #[inline]
@@ -90,10 +92,11 @@ impl<'headers, 'buf> Request<'headers, 'buf> {
             headers,
         } = library::request(buffer, headers.into(), settings);
         self.learn(line);
-        if result.is_ok_and(|status| status.is_complete()) {
+        let status = result.map_err(|fault| fault.error)?;
+        if status.is_complete() {
             self.headers = headers;
         }
-        result
+        Ok(status)
     }
 
     fn learn(&mut self, line: RequestLine<'buf>) {

@@ -34,7 +34,8 @@ impl<'headers, 'buf> Response<'headers, 'buf> {
     /// Reads the head that the buffer begins with, and tells how many bytes it has.
     ///
     /// On complete the list of headers is cut to those read, so a response that is read into again
-    /// has no room for more.
+    /// has no room for more. Where an error lies tells
+    /// [`response_error_position`](crate::response_error_position).
     #[inline]
     pub fn parse(&mut self, buf: &'buf [u8]) -> Result<usize> {
         ParserConfig::default().parse_response(self, buf)
@@ -49,10 +50,11 @@ impl<'headers, 'buf> Response<'headers, 'buf> {
         } = library::response(buffer, (&mut *self.headers).into(), settings);
         let given = headers.len();
         self.learn(line);
-        if result.is_ok_and(|status| status.is_complete()) {
+        let status = result.map_err(|fault| fault.error)?;
+        if status.is_complete() {
             self.headers = &mut mem::take(&mut self.headers)[..given];
         }
-        result
+        Ok(status)
     }
 
     #[inline]
@@ -68,10 +70,11 @@ impl<'headers, 'buf> Response<'headers, 'buf> {
             headers,
         } = library::response(buffer, headers.into(), settings);
         self.learn(line);
-        if result.is_ok_and(|status| status.is_complete()) {
+        let status = result.map_err(|fault| fault.error)?;
+        if status.is_complete() {
             self.headers = headers;
         }
-        result
+        Ok(status)
     }
 
     fn learn(&mut self, line: StatusLine<'buf>) {

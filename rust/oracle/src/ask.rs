@@ -1,17 +1,18 @@
 //! The four calls of httparse.
 
 use crate::piece::place;
-use crate::slots;
-use answers::{Answer, ChunkSize, Fault, Outcome, Query, Reason, Settings};
-use httparse::{ParserConfig, Status};
+use crate::{position, slots};
+use answers::{Answer, Call, ChunkSize, HeadError, Outcome, Query, Reason, Settings};
+use httparse::{Header, ParserConfig, Request, Response, Status};
 
 pub fn request(query: &Query) -> Answer {
     let input = &query.input;
     let mut lent = slots::lend(query.slots);
-    let mut request = httparse::Request::new(&mut lent);
-    let outcome = outcome(config(&query.settings).parse_request(&mut request, input));
+    let mut request = Request::new(&mut lent);
+    let result = config(&query.settings).parse_request(&mut request, input);
+    let outcome = outcome(query, result);
     let (method, target, version) = (request.method, request.path, request.version);
-    let listed: *const [httparse::Header<'_>] = request.headers;
+    let listed: *const [Header<'_>] = request.headers;
     Answer::Request {
         outcome,
         method: method.map(|text| place(input, text.as_bytes())),
@@ -24,10 +25,11 @@ pub fn request(query: &Query) -> Answer {
 pub fn response(query: &Query) -> Answer {
     let input = &query.input;
     let mut lent = slots::lend(query.slots);
-    let mut response = httparse::Response::new(&mut lent);
-    let outcome = outcome(config(&query.settings).parse_response(&mut response, input));
+    let mut response = Response::new(&mut lent);
+    let result = config(&query.settings).parse_response(&mut response, input);
+    let outcome = outcome(query, result);
     let (version, code, reason) = (response.version, response.code, response.reason);
-    let listed: *const [httparse::Header<'_>] = response.headers;
+    let listed: *const [Header<'_>] = response.headers;
     Answer::Response {
         outcome,
         version,
@@ -40,12 +42,13 @@ pub fn response(query: &Query) -> Answer {
 pub fn headers(query: &Query) -> Answer {
     let input = &query.input;
     let mut lent = slots::lend(query.slots);
-    let all: *const [httparse::Header<'_>] = lent.as_slice();
-    let (outcome, listed) = match httparse::parse_headers(input, &mut lent) {
-        Ok(Status::Complete((end, list))) => (Outcome::Complete(end), std::ptr::from_ref(list)),
-        Ok(Status::Partial) => (Outcome::Incomplete, all),
-        Err(error) => (Outcome::Error(fault(error)), all),
+    let all: *const [Header<'_>] = lent.as_slice();
+    let (result, listed) = match httparse::parse_headers(input, &mut lent) {
+        Ok(Status::Complete((end, list))) => (Ok(Status::Complete(end)), std::ptr::from_ref(list)),
+        Ok(Status::Partial) => (Ok(Status::Partial), all),
+        Err(error) => (Err(error), all),
     };
+    let outcome = outcome(query, result);
     Answer::Headers {
         outcome,
         slots: slots::left_behind(&lent, listed, outcome, input),
@@ -56,8 +59,28 @@ pub fn chunk_size(query: &Query) -> Answer {
     Answer::ChunkSize(match httparse::parse_chunk_size(&query.input) {
         Ok(Status::Complete((end, size))) => ChunkSize::Complete { end, size },
         Ok(Status::Partial) => ChunkSize::Incomplete,
-        Err(httparse::InvalidChunkSize) => ChunkSize::Error,
+        Err(httparse::InvalidChunkSize) => ChunkSize::Error {
+            position: position::in_chunk_size(&query.input),
+        },
     })
+}
+
+/// Reads other bytes into other slots than the query's, and tells nothing but how that ended.
+pub fn head<'input>(
+    query: &Query,
+    input: &'input [u8],
+    lent: &mut [Header<'input>],
+) -> httparse::Result<usize> {
+    let config = config(&query.settings);
+    match query.call {
+        Call::Request => config.parse_request(&mut Request::new(lent), input),
+        Call::Response => config.parse_response(&mut Response::new(lent), input),
+        Call::Headers => Ok(match httparse::parse_headers(input, lent)? {
+            Status::Complete((end, _)) => Status::Complete(end),
+            Status::Partial => Status::Partial,
+        }),
+        Call::ChunkSize => unreachable!("a chunk size line is no head"),
+    }
 }
 
 fn config(settings: &Settings) -> ParserConfig {
@@ -75,23 +98,26 @@ fn config(settings: &Settings) -> ParserConfig {
     config
 }
 
-fn outcome(result: httparse::Result<usize>) -> Outcome {
+fn outcome(query: &Query, result: httparse::Result<usize>) -> Outcome {
     match result {
         Ok(Status::Complete(end)) => Outcome::Complete(end),
         Ok(Status::Partial) => Outcome::Incomplete,
-        Err(error) => Outcome::Error(fault(error)),
+        Err(error) => Outcome::Error {
+            error: head_error(error),
+            position: position::in_head(query, error),
+        },
     }
 }
 
-fn fault(error: httparse::Error) -> Fault {
+fn head_error(error: httparse::Error) -> HeadError {
     match error {
-        httparse::Error::HeaderName => Fault::HeaderName,
-        httparse::Error::HeaderValue => Fault::HeaderValue,
-        httparse::Error::NewLine => Fault::NewLine,
-        httparse::Error::Status => Fault::Status,
-        httparse::Error::Token => Fault::Token,
-        httparse::Error::TooManyHeaders => Fault::TooManyHeaders,
-        httparse::Error::Version => Fault::Version,
+        httparse::Error::HeaderName => HeadError::HeaderName,
+        httparse::Error::HeaderValue => HeadError::HeaderValue,
+        httparse::Error::NewLine => HeadError::NewLine,
+        httparse::Error::Status => HeadError::Status,
+        httparse::Error::Token => HeadError::Token,
+        httparse::Error::TooManyHeaders => HeadError::TooManyHeaders,
+        httparse::Error::Version => HeadError::Version,
     }
 }
 

@@ -2,6 +2,7 @@
 
 mod ask;
 mod piece;
+mod position;
 pub mod record;
 pub mod sample;
 mod slots;

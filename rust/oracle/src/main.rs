@@ -25,10 +25,14 @@ An answer is one of these; OFFSET+LENGTH is a piece of the input, `-` a field no
   OUTCOME method=0+3 target=4+1 version=1 headers=[17+4:23+5] untouched=2
   OUTCOME version=1 code=200 reason=13+2 headers=[] untouched=3
   OUTCOME headers=[] untouched=4
-  complete 3 size=0, incomplete, or error InvalidChunkSize
-where OUTCOME is `complete` and the number of bytes read, or `incomplete`, or `error` and its
-name; headers are the slots that were written, each NAME:VALUE; untouched is the number of the
-others. An empty reason is reason=+0.
+  complete 3 size=0, incomplete, or error InvalidChunkSize at 4
+where OUTCOME is `complete` and the number of bytes read, or `incomplete`, or `error NAME at` and
+its position; headers are the slots that were written, each NAME:VALUE; untouched is the number of
+the others. An empty reason is reason=+0.
+
+httparse does not tell the position of an error: oracle asks it about every beginning of the input,
+and the last byte of the least that is the error has decided. For TooManyHeaders the position is
+that of the header's name that one slot more would hold.
 
 A line that is no query is answered `refused`, and standard error says why; then the exit status
 is 1 in the end, otherwise 0. Wrong arguments have status 2.

@@ -25,7 +25,7 @@ pub fn left_behind(
     let slots = look_at(lent, input);
     let expected = match outcome {
         Outcome::Complete(_) => &lent[..slots.written.len()],
-        Outcome::Incomplete | Outcome::Error(_) => lent,
+        Outcome::Incomplete | Outcome::Error { .. } => lent,
     };
     assert!(
         std::ptr::eq(listed, expected),
@@ -37,7 +37,7 @@ pub fn left_behind(
 }
 
 /// The lent slots as they are now; panics if the written ones are not the first ones.
-fn look_at(lent: &[httparse::Header<'_>], input: &[u8]) -> Slots {
+pub fn look_at(lent: &[httparse::Header<'_>], input: &[u8]) -> Slots {
     let count = lent.iter().position(is_untouched).unwrap_or(lent.len());
     let (written, rest) = lent.split_at(count);
     assert!(

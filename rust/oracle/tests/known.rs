@@ -52,31 +52,31 @@ fn errors_and_the_fields_left_behind() {
     check(&[
         (
             "request\tdefault\t1\t\" / HTTP/1.1\\r\\n\\r\\n\"",
-            "error Token method=- target=- version=- headers=[] untouched=1",
+            "error Token at 0 method=- target=- version=- headers=[] untouched=1",
         ),
         (
             "request\tdefault\t1\t\"GET /\\xff \"",
-            "error Token method=0+3 target=- version=- headers=[] untouched=1",
+            "error Token at 6 method=0+3 target=- version=- headers=[] untouched=1",
         ),
         (
             "request\tdefault\t1\t\"GET / HTTP/1!\"",
-            "error Version method=0+3 target=4+1 version=- headers=[] untouched=1",
+            "error Version at 12 method=0+3 target=4+1 version=- headers=[] untouched=1",
         ),
         (
             "request\tdefault\t1\t\"GET / HTTP/1.1\\r\\r\"",
-            "error NewLine method=0+3 target=4+1 version=1 headers=[] untouched=1",
+            "error NewLine at 15 method=0+3 target=4+1 version=1 headers=[] untouched=1",
         ),
         (
             "response\tdefault\t1\t\"HTTP/1.1 20x\"",
-            "error Status version=1 code=- reason=- headers=[] untouched=1",
+            "error Status at 11 version=1 code=- reason=- headers=[] untouched=1",
         ),
         (
             "response\tdefault\t1\t\"HTTP/1.1 200\\rx\"",
-            "error Status version=1 code=200 reason=- headers=[] untouched=1",
+            "error Status at 13 version=1 code=200 reason=- headers=[] untouched=1",
         ),
         (
             "response\tdefault\t1\t\"HTTP/1.1\\r\\n\"",
-            "error Version version=1 code=- reason=- headers=[] untouched=1",
+            "error Version at 8 version=1 code=- reason=- headers=[] untouched=1",
         ),
     ]);
 }
@@ -86,23 +86,69 @@ fn errors_and_the_slots_left_behind() {
     check(&[
         (
             "request\tdefault\t3\t\"GET / HTTP/1.1\\nA: b\\nC : d\\n\\n\"",
-            "error HeaderName method=0+3 target=4+1 version=1 headers=[15+1:18+1] untouched=2",
+            "error HeaderName at 21 method=0+3 target=4+1 version=1 headers=[15+1:18+1] untouched=2",
         ),
         (
             "headers\tdefault\t2\t\"A:b\\r\\nC:d\\x00\"",
-            "error HeaderValue headers=[0+1:2+1] untouched=1",
+            "error HeaderValue at 8 headers=[0+1:2+1] untouched=1",
         ),
         (
             "headers\tdefault\t2\t\"A:b\\r\\n\\rC\"",
-            "error NewLine headers=[0+1:2+1] untouched=1",
+            "error NewLine at 6 headers=[0+1:2+1] untouched=1",
         ),
         (
             "headers\tdefault\t1\t\"A:b\\nC:d\\n\\n\"",
-            "error TooManyHeaders headers=[0+1:2+1] untouched=0",
+            "error TooManyHeaders at 4 headers=[0+1:2+1] untouched=0",
         ),
         (
             "headers\tdefault\t2\t\"A:b\\nC:d\\n\\n\"",
             "complete 9 headers=[0+1:2+1 4+1:6+1] untouched=0",
+        ),
+    ]);
+}
+
+/// What stands behind the byte that decided does not matter, nor how long the part is that it spoils.
+#[test]
+fn errors_and_where_they_lie() {
+    check(&[
+        (
+            "request\tdefault\t1\t\"GET /\\xff\\xff/ HTTP/1.1\\n\\x00\"",
+            "error Token at 8 method=0+3 target=- version=- headers=[] untouched=1",
+        ),
+        (
+            "request\tdefault\t1\t\"\\n\\n\\rGET / HTTP/2\"",
+            "error NewLine at 3 method=- target=- version=- headers=[] untouched=1",
+        ),
+        (
+            "response\tdefault\t0\t\"HTTP/1.1 200 OK\\nA: b\\n\\x00\"",
+            "error TooManyHeaders at 16 version=1 code=200 reason=13+2 headers=[] untouched=0",
+        ),
+        (
+            "headers\tdefault\t2\t\"A:b\\r\\nC:d\\r\\nE:f\\r\\nG:h\\r\\n\\r\\n\"",
+            "error TooManyHeaders at 10 headers=[0+1:2+1 5+1:7+1] untouched=0",
+        ),
+        (
+            "headers\tdefault\t0\t\"A: b\\rc\"",
+            "error HeaderValue at 5 headers=[] untouched=0",
+        ),
+        (
+            "chunk-size\tdefault\t0\t\"0123456789abcdef0\\r\\n\"",
+            "error InvalidChunkSize at 16",
+        ),
+    ]);
+}
+
+/// A header without a slot begins with its name, and a fold is part of its value.
+#[test]
+fn settings_and_where_errors_lie() {
+    check(&[
+        (
+            "request\tspace-before-first-header-name\t0\t\"GET / HTTP/1.1\\n \\tA:b\\n\\n\"",
+            "error TooManyHeaders at 17 method=0+3 target=4+1 version=1 headers=[] untouched=0",
+        ),
+        (
+            "response\tmultiline-headers\t0\t\"HTTP/1.1 200\\nA:b\\n c\\n:\"",
+            "error TooManyHeaders at 13 version=1 code=200 reason=+0 headers=[] untouched=0",
         ),
     ]);
 }
@@ -144,7 +190,7 @@ fn chunk_sizes() {
         ("chunk-size\tdefault\t0\t\"77a65\\r\"", "incomplete"),
         (
             "chunk-size\tdefault\t0\t\"567f8a\\rfoo\"",
-            "error InvalidChunkSize",
+            "error InvalidChunkSize at 7",
         ),
     ]);
 }
@@ -188,7 +234,7 @@ fn settings_for_headers() {
         ),
         (
             "response\tignore-invalid-headers-in-responses\t1\t\"HTTP/1.1 200\\n:x\\x00\\n\\n\"",
-            "error HeaderName version=1 code=200 reason=+0 headers=[] untouched=1",
+            "error HeaderName at 15 version=1 code=200 reason=+0 headers=[] untouched=1",
         ),
     ]);
 }

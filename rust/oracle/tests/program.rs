@@ -19,11 +19,13 @@ fn run(arguments: &[&str], input: &[u8]) -> Output {
 fn each_line_has_an_answer() {
     let output = run(
         &[],
-        b"chunk-size\tdefault\t0\t\"0\\r\\n\"\nheaders\tdefault\t2\t\"\\n\"",
+        b"chunk-size\tdefault\t0\t\"0\\r\\n\"\nheaders\tdefault\t2\t\"\\n\"\n\
+          headers\tdefault\t1\t\"A b\"",
     );
     assert_eq!(
         String::from_utf8_lossy(&output.stdout),
-        "complete 3 size=0\ncomplete 1 headers=[] untouched=2\n"
+        "complete 3 size=0\ncomplete 1 headers=[] untouched=2\n\
+         error HeaderName at 1 headers=[] untouched=1\n"
     );
     assert!(output.stderr.is_empty());
     assert_eq!(output.status.code(), Some(0));

@@ -54,6 +54,7 @@ fn every_row_has_the_form_told() {
         assert!(slots <= if call == 3 { 0 } else { 16 }, "{row}");
         assert!(is_input(words[2]), "{row}");
         let outs: Vec<u64> = words[3..].iter().map(|word| number(word)).collect();
+        assert!(outs[1] <= farthest(words[2], outs[0]), "{row}");
         let written = if call == 3 { 0 } else { outs[2] };
         assert!(written <= slots, "{row}");
         assert_eq!(outs.len() as u64, 9 + 4 * written, "{row}");
@@ -87,6 +88,17 @@ fn number(word: &str) -> u64 {
         .unwrap_or_else(|error| panic!("`{word}`: {error}"));
     assert_eq!(number.to_string(), word);
     number
+}
+
+/// The farthest place in an input that an answer of a kind can tell: an end may stand behind the last
+/// byte, an error lies on one, and what is incomplete has no place.
+fn farthest(input: &str, kind: u64) -> u64 {
+    let bytes = input.len() as u64 / 2;
+    match kind {
+        0 => bytes,
+        1 => 0,
+        _ => bytes - 1,
+    }
 }
 
 /// Whether a word is an input of at most 1,000 bytes in its one form.

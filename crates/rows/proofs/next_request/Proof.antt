@@ -1,7 +1,7 @@
 -- `rows::next_request` meets its contract: the call's promise, of what stands behind the position.
 -- Assumes nothing.
 use borrow.Author.Needs.{needs}
-use Rattle.rows.specs.Reading.{next-request, used-request}
+use Rattle.rowread.specs.Reading.{next-request, used-request}
 use Rattle.rows.proofs.next_request.Statement.{statement}
 use Rattle.rows.proofs.next_request.Tie as tie
 

@@ -1,7 +1,7 @@
 -- `rows::next_response` meets its contract: the call's promise, of what stands behind the position.
 -- Assumes nothing.
 use borrow.Author.Needs.{needs}
-use Rattle.rows.specs.Reading.{next-response, used-response}
+use Rattle.rowread.specs.Reading.{next-response, used-response}
 use Rattle.rows.proofs.next_response.Statement.{statement}
 use Rattle.rows.proofs.next_response.Tie as tie
 

@@ -6,7 +6,7 @@ use lib.ListN.{length}
 use Rattle.rules.specs.Settings.{rulesOf}
 use Rattle.grammar.specs.Message.{request-head}
 use Rattle.heads.specs.Calls.{request}
-use Rattle.rows.specs.Reading.{Reading, reading-within, readings}
+use Rattle.rowread.specs.Reading.{Reading, reading-within, reading-wrong-within, readings}
 use Rattle.rows.proofs.requests.Statement.{statement}
 use Rattle.rows.proofs.requests.Tie as tie
 
@@ -21,6 +21,13 @@ add-at : tie.Need-add-at Inv-loop μ-loop
 add-at c =
     let n = c .before .before .before .before .before in
     let h = reading-within (n .before .before .before .before .loop .inv) (n .next-request .ensures .0) (c .before .end .given .1) in
+    search (needs, h)
+
+-- so does a byte that is wrong
+add-position : tie.Need-add-position Inv-loop μ-loop
+add-position c =
+    let n = c .before .before .before .before .before .before in
+    let h = reading-wrong-within (n .before .before .before .before .loop .inv) (n .next-request .ensures .0) (c .before .before .end2 .given .1) in
     search (needs, h)
 
 pub requests-spec : {M : Type 1} → statement M
@@ -46,6 +53,7 @@ requests-spec =
     (λ c. search needs)
     (λ c. search (needs, readings))
     (λ c. search needs)
+    add-position
     (λ c. search needs)
     (λ c. search needs)
     (λ c. search (needs, readings))

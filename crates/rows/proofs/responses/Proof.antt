@@ -6,7 +6,7 @@ use lib.ListN.{length}
 use Rattle.rules.specs.Rules.{default}
 use Rattle.grammar.specs.Message.{response-head}
 use Rattle.heads.specs.Calls.{response}
-use Rattle.rows.specs.Reading.{Reading, reading-within, readings}
+use Rattle.rowread.specs.Reading.{Reading, reading-within, reading-wrong-within, readings}
 use Rattle.rows.proofs.responses.Statement.{statement}
 use Rattle.rows.proofs.responses.Tie as tie
 
@@ -21,6 +21,13 @@ add-at : tie.Need-add-at Inv-loop μ-loop
 add-at c =
     let n = c .before .before .before .before .before in
     let h = reading-within (n .before .before .before .before .loop .inv) (n .next-response .ensures .0) (c .before .end .given .1) in
+    search (needs, h)
+
+-- so does a byte that is wrong
+add-position : tie.Need-add-position Inv-loop μ-loop
+add-position c =
+    let n = c .before .before .before .before .before .before in
+    let h = reading-wrong-within (n .before .before .before .before .loop .inv) (n .next-response .ensures .0) (c .before .before .end2 .given .1) in
     search (needs, h)
 
 pub responses-spec : {M : Type 1} → statement M
@@ -46,6 +53,7 @@ responses-spec =
     (λ c. search needs)
     (λ c. search (needs, readings))
     (λ c. search needs)
+    add-position
     (λ c. search needs)
     (λ c. search needs)
     (λ c. search (needs, readings))

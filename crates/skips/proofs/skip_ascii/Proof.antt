@@ -4,7 +4,7 @@ use Prim.Native.Nat.{_-_}
 use borrow.Author.Needs.{needs}
 use lib.ListN.{length}
 use Rattle.reader.specs.Skip.{Passed}
-use Rattle.skips.specs.Ahead.{aheads}
+use Rattle.eights.specs.Ahead.{aheads}
 use Rattle.octets.specs.Class.{isAscii}
 use Rattle.skips.proofs.skip_ascii.Statement.{statement}
 use Rattle.skips.proofs.skip_ascii.Tie as tie

@@ -4,7 +4,7 @@ use Prim.Native.Nat.{_-_, _≤_}
 use borrow.Author.Needs.{needs}
 use lib.ListN.{length}
 use Rattle.reader.specs.Skip.{Passed}
-use Rattle.skips.specs.Ahead.{aheads, skipped-on}
+use Rattle.eights.specs.Ahead.{aheads, skipped-on}
 use Rattle.octets.specs.Class.{isValue}
 use Rattle.skips.proofs.skip_value.Statement.{statement}
 use Rattle.skips.proofs.skip_value.Tie as tie

@@ -1,6 +1,6 @@
 //! The words of an answer's text, one after another.
 
-use crate::{number, ChunkSize, Fault, Header, Outcome, Piece, Reason, Slots};
+use crate::{number, ChunkSize, HeadError, Header, Outcome, Piece, Reason, Slots};
 
 /// The words of an answer that are still to be read; a list in brackets is part of one word.
 pub(super) struct Words<'text> {
@@ -35,7 +35,10 @@ impl<'text> Words<'text> {
         match self.next("complete, incomplete or error")? {
             "complete" => Ok(Outcome::Complete(self.end()?)),
             "incomplete" => Ok(Outcome::Incomplete),
-            "error" => Ok(Outcome::Error(fault(self.next("an error's name")?)?)),
+            "error" => Ok(Outcome::Error {
+                error: head_error(self.next("an error's name")?)?,
+                position: self.position()?,
+            }),
             word => Err(no_outcome(word)),
         }
     }
@@ -44,6 +47,15 @@ impl<'text> Words<'text> {
     fn end(&mut self) -> Result<usize, String> {
         number::read(self.next("the number of bytes read")?)
             .map_err(|what| format!("behind `complete`: {what}"))
+    }
+
+    /// The position of an error, behind the word `at`.
+    fn position(&mut self) -> Result<usize, String> {
+        match self.next("`at`")? {
+            "at" => number::read(self.next("the error's position")?)
+                .map_err(|what| format!("behind `at`: {what}")),
+            word => Err(format!("`at` is expected where `{word}` stands")),
+        }
     }
 
     /// The text behind `NAME=`.
@@ -86,7 +98,9 @@ impl<'text> Words<'text> {
             }),
             "incomplete" => Ok(ChunkSize::Incomplete),
             "error" => match self.next("an error's name")? {
-                "InvalidChunkSize" => Ok(ChunkSize::Error),
+                "InvalidChunkSize" => Ok(ChunkSize::Error {
+                    position: self.position()?,
+                }),
                 name => Err(format!(
                     "`{name}` is no error of a chunk size; write InvalidChunkSize"
                 )),
@@ -107,12 +121,12 @@ fn no_outcome(word: &str) -> String {
     format!("an answer begins with complete, incomplete or error, not with `{word}`")
 }
 
-fn fault(name: &str) -> Result<Fault, String> {
-    Fault::ALL
+fn head_error(name: &str) -> Result<HeadError, String> {
+    HeadError::ALL
         .into_iter()
-        .find(|fault| fault.to_string() == name)
+        .find(|error| error.to_string() == name)
         .ok_or_else(|| {
-            let names = Fault::ALL.map(|fault| fault.to_string()).join(" ");
+            let names = HeadError::ALL.map(|error| error.to_string()).join(" ");
             format!("`{name}` is no error of a head; write one of {names}")
         })
 }

@@ -107,7 +107,7 @@ fn headers<'input>(case: &Case<'input>, memory: &mut [Header<'input>]) -> Seen {
     let (ended, list) = match result {
         Ok(Status::Complete((end, list))) => (Ended::Complete(end), Some(place(first, list))),
         Ok(Status::Partial) => (Ended::Partial, None),
-        Err(error) => (fault(error), None),
+        Err(error) => (refused(error), None),
     };
     Seen {
         ended: vec![ended],
@@ -123,7 +123,7 @@ fn chunk_size(input: &[u8]) -> Seen {
     let (ended, size) = match result {
         Ok(Status::Complete((end, size))) => (Ended::Complete(end), Some(size)),
         Ok(Status::Partial) => (Ended::Partial, None),
-        Err(error) => (fault(error), None),
+        Err(error) => (refused(error), None),
     };
     Seen {
         ended: vec![ended],
@@ -154,11 +154,11 @@ fn ended(result: library::Result<usize>) -> Ended {
     match result {
         Ok(Status::Complete(end)) => Ended::Complete(end),
         Ok(Status::Partial) => Ended::Partial,
-        Err(error) => fault(error),
+        Err(error) => refused(error),
     }
 }
 
-pub fn fault(error: impl Debug + Display) -> Ended {
+pub fn refused(error: impl Debug + Display) -> Ended {
     Ended::Error {
         name: format!("{error:?}"),
         text: error.to_string(),

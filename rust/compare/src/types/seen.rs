@@ -32,6 +32,12 @@ impl Way {
             Way::Alone | Way::Settings | Way::After | Way::Before => slots,
         }
     }
+
+    /// Whether there is a function that tells where an error lies: one without settings, and one
+    /// with them.
+    pub fn has_positions(self) -> bool {
+        matches!(self, Way::Alone | Way::Settings)
+    }
 }
 
 /// Every way to read a case; all but two read without settings.
@@ -74,6 +80,8 @@ pub static UNTOUCHED: &str = "untouched";
 pub struct Seen {
     /// How each reading ended.
     pub ended: Vec<Ended>,
+    /// Where the error lies, if it is one and its position can be asked for in this way.
+    pub position: Option<u64>,
     pub line: Line,
     /// The size of a chunk.
     pub size: Option<u64>,
@@ -97,6 +105,11 @@ impl Seen {
             .iter()
             .position(|&status| status.trim_start_matches("error ") == name);
         status.unwrap_or_else(|| panic!("{name} is no status")) as u32
+    }
+
+    /// Whether the first reading ended in an error.
+    pub fn is_error(&self) -> bool {
+        matches!(self.ended[0], Ended::Error { .. })
     }
 
     /// Whether a request ran out of bytes in its target, or right in front of it.

@@ -8,7 +8,7 @@ mod caller;
 #[path = "interface.rs"]
 mod interface;
 
-pub use caller::{call, fault};
+pub use caller::{call, refused};
 #[cfg(test)]
 pub use interface::name;
 pub use interface::texts;

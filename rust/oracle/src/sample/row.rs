@@ -7,7 +7,7 @@
 //! * INPUT: two hexadecimal digits for each byte; `-` if there is none.
 //! * KIND: 0 complete, 1 incomplete, 2 HeaderName, 3 HeaderValue, 4 NewLine, 5 Status, 6 Token,
 //!   7 TooManyHeaders, 8 Version, 9 chunk size error.
-//! * OUT0: the end, if complete.
+//! * OUT0: the end, if complete; of an error, its position.
 //! * OUT1: the number of slots written; for a chunk size, the size, if complete.
 //! * OUT2: what is known: 1 method, 2 target, 4 version, 8 code, 16 reason, added up.
 //! * OUT3 to OUT7: of a request, offset and length of the method, offset and length of the target,
@@ -74,29 +74,30 @@ fn numbers(answer: &Answer) -> Vec<u64> {
 
 /// The numbers of all but a chunk size, given OUT2 to OUT7.
 fn of_head(outcome: Outcome, fields: [u64; 6], slots: &Slots) -> Vec<u64> {
-    let (kind, end) = kind_and_end(outcome);
-    let mut numbers = vec![kind, end, slots.written.len() as u64];
+    let [kind, place] = kind_and_place(outcome);
+    let mut numbers = vec![kind, place, slots.written.len() as u64];
     numbers.extend(fields);
     numbers.extend(slots.written.iter().flat_map(of_header));
     numbers
 }
 
 fn of_chunk_size(answer: ChunkSize) -> [u64; 9] {
-    let (kind, end, size) = match answer {
-        ChunkSize::Complete { end, size } => (COMPLETE, end as u64, size),
+    let (kind, place, size) = match answer {
+        ChunkSize::Complete { end, size } => (COMPLETE, end, size),
         ChunkSize::Incomplete => (INCOMPLETE, 0, 0),
-        ChunkSize::Error => (INVALID_CHUNK_SIZE, 0, 0),
+        ChunkSize::Error { position } => (INVALID_CHUNK_SIZE, position, 0),
     };
-    [u64::from(kind), end, size, 0, 0, 0, 0, 0, 0]
+    [u64::from(kind), place as u64, size, 0, 0, 0, 0, 0, 0]
 }
 
-fn kind_and_end(outcome: Outcome) -> (u64, u64) {
-    let (kind, end) = match outcome {
-        Outcome::Complete(end) => (COMPLETE, end as u64),
+/// KIND and OUT0.
+fn kind_and_place(outcome: Outcome) -> [u64; 2] {
+    let (kind, place) = match outcome {
+        Outcome::Complete(end) => (COMPLETE, end),
         Outcome::Incomplete => (INCOMPLETE, 0),
-        Outcome::Error(fault) => (number(fault), 0),
+        Outcome::Error { error, position } => (number(error), position),
     };
-    (u64::from(kind), end)
+    [u64::from(kind), place as u64]
 }
 
 fn request_fields(method: Option<Piece>, target: Option<Piece>, version: Option<u8>) -> [u64; 6] {
@@ -147,7 +148,7 @@ fn of_piece(piece: Piece) -> [u64; 2] {
 #[cfg(test)]
 mod tests {
     use super::*;
-    use answers::Fault;
+    use answers::HeadError;
 
     /// Checks the rows of queries and answers that are given in their text forms.
     fn check(examples: &[(&str, &str, &str)]) {
@@ -184,8 +185,8 @@ mod tests {
         check(&[
             (
                 "request\tdefault\t1\t\"\\nA \\xff \"",
-                "error Token method=1+1 target=- version=- headers=[] untouched=1",
-                "0 1 0a4120ff20 6 0 0 1 1 1 0 0 0",
+                "error Token at 4 method=1+1 target=- version=- headers=[] untouched=1",
+                "0 1 0a4120ff20 6 4 0 1 1 1 0 0 0",
             ),
             (
                 "response\tdefault\t1\t\"HTTP/1.0 000\"",
@@ -194,8 +195,8 @@ mod tests {
             ),
             (
                 "response\tdefault\t1\t\"HTTP/1.0 000\\n:\"",
-                "error HeaderName version=0 code=0 reason=+0 headers=[] untouched=1",
-                "1 1 485454502f312e30203030300a3a 2 0 0 28 0 0 0 0 0",
+                "error HeaderName at 13 version=0 code=0 reason=+0 headers=[] untouched=1",
+                "1 1 485454502f312e30203030300a3a 2 13 0 28 0 0 0 0 0",
             ),
             (
                 "headers\tdefault\t1\t\"\"",
@@ -207,8 +208,12 @@ mod tests {
 
     #[test]
     fn every_error_has_its_number() {
-        for (index, fault) in Fault::ALL.into_iter().enumerate() {
-            assert_eq!(kind_and_end(Outcome::Error(fault)), (index as u64 + 2, 0));
+        for (index, error) in HeadError::ALL.into_iter().enumerate() {
+            let position = 5;
+            assert_eq!(
+                kind_and_place(Outcome::Error { error, position }),
+                [index as u64 + 2, 5]
+            );
         }
     }
 
@@ -226,9 +231,9 @@ mod tests {
                 "3 0 310d 1 0 0 0 0 0 0 0 0",
             ),
             (
-                "chunk-size\tdefault\t0\t\"g\"",
-                "error InvalidChunkSize",
-                "3 0 67 9 0 0 0 0 0 0 0 0",
+                "chunk-size\tdefault\t0\t\"1g\"",
+                "error InvalidChunkSize at 1",
+                "3 0 3167 9 1 0 0 0 0 0 0 0",
             ),
         ]);
     }

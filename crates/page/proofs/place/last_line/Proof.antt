@@ -1,4 +1,4 @@
--- `page::place::last_line` is safe and ends: there are no more line ends than bytes.
+-- `page::place::last_line` is safe and ends: there are no more line ends than bytes, and no line is longer than all of them.
 -- Assumes nothing.
 use Prim.Native.Nat.{_-_, _+_, _≤_}
 use borrow.Author.Needs.{needs}
@@ -9,10 +9,10 @@ use Rattle.page.proofs.place.last_line.Statement.{statement}
 use Rattle.page.proofs.place.last_line.Tie as tie
 
 abbrev Inv-loop : tie.InvT-loop
-Inv-loop s number₀ start₀ i₀ number start i = (i ≤ length s) × (number ≤ i + 1)
+Inv-loop s number₀ start₀ here₀ i₀ number start here i = (i ≤ length s) × (number ≤ i + 1) × (here ≤ i)
 
 abbrev μ-loop : tie.MeasureT-loop
-μ-loop s number₀ start₀ i₀ number start i = length s - i
+μ-loop s number₀ start₀ here₀ i₀ number start here i = length s - i
 
 pub last-line-spec : {M : Type 1} → statement M
 last-line-spec =
@@ -20,6 +20,7 @@ last-line-spec =
     (tie.spec
     Inv-loop
     μ-loop
+    (λ c. search needs)
     (λ c. search needs)
     (λ c. search needs)
     (λ c. search needs)

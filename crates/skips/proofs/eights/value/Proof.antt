@@ -1,9 +1,0 @@
--- `skips::eights::value` meets its contract: the eight bytes as one number tell how many are of the class.
--- Assumes nothing.
-use borrow.Author.Needs.{needs}
-use Rattle.skips.specs.Ahead.{ahead-eight}
-use Rattle.skips.proofs.eights.value.Statement.{statement}
-use Rattle.skips.proofs.eights.value.Tie as tie
-
-pub value-spec : {M : Type 1} → statement M
-value-spec = tie.close (tie.spec (λ c κs. search needs) (λ c κs. search needs) (λ c. ahead-eight (c .value .ensures) (c .before .eight .ensures) (search needs)))

@@ -1,9 +1,0 @@
--- `skips::eights::visible` meets its contract: there are fewer than eight bytes, or the eight as one number tell how many are of the class.
--- Assumes nothing.
-use borrow.Author.Needs.{needs}
-use Rattle.skips.specs.Ahead.{ahead-none, ahead-eight}
-use Rattle.skips.proofs.eights.visible.Statement.{statement}
-use Rattle.skips.proofs.eights.visible.Tie as tie
-
-pub visible-spec : {M : Type 1} → statement M
-visible-spec = tie.close (tie.spec (λ c. search needs) (λ c. search (needs, ahead-none)) (λ c κs. search needs) (λ c κs. search needs) (λ c. ahead-eight (c .visible .ensures) (c .before .eight .ensures) (search needs)))
