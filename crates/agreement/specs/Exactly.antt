@@ -69,7 +69,7 @@ given-over k (got hs q) = refl
 given-over k (short hs) = refl
 given-over k (bad x) = refl
 
-line-over : {K : Type 0} (k : K) (b : Blocks) → knownOf (over k b) .0 ≡ k
+pub line-over : {K : Type 0} (k : K) (b : Blocks) → knownOf (over k b) .0 ≡ k
 line-over k (got hs q) = refl
 line-over k (short hs) = refl
 line-over k (bad x) = refl

@@ -9,14 +9,14 @@ use lib.Dec.{eqb, ltb}
 use lib.ListN.{length, take, drop, length-append, length-drop, take-append-drop}
 use lib.Seq.{length-take-le, take-at, take-take, take-append-le, drop-append-le}
 use borrow.Author.Tests.{ltb-true, ltb-false}
-use Rattle.reader.specs.Machine.{more, refused, Step, run, runAt}
+use Rattle.reader.specs.Machine.{run, runAt}
 use Rattle.reader.specs.Judged.{pass, fail, judged}
 use Rattle.reader.specs.Seq.{first, seq}
-use Rattle.reader.specs.Loop.{Turn, again}
+use Rattle.reader.specs.Loop.{again}
 use Rattle.reader.specs.Branch.{fresh}
 use Rattle.reader.specs.Answer.{Answer, got, short, bad, answer, answered, answered-bad, retold, rounds}
-use Rattle.reader.specs.Chain.{nothing, part}
-use Rattle.reader.specs.Refusals.{Refuses, refused-is}
+use Rattle.reader.specs.Chain.{nothing}
+use Rattle.reader.specs.Refusals.{refused-is}
 use Rattle.reader.specs.Decided.{Taken, Takes, same-start, gave-late, takes-judged, takes-seq, takes-branch}
 use Rattle.reader.specs.Tests.{split, never}
 use Rattle.octets.specs.Class.{isToken}
@@ -32,9 +32,8 @@ use Rattle.values.specs.Value.{blanks, valueStep}
 use Rattle.fields.specs.declared.Header.{Header}
 use Rattle.fields.specs.Line.{Kind, header, end, named, fieldStep, ends, lineStep, line}
 use Rattle.blocks.specs.Block.{taken, block, block-line, given}
-use Rattle.heads.specs.Head.{Heads, Known, over}
-use Rattle.agreement.specs.Line.{Lined, exact-line}
-use Rattle.agreement.specs.Block.{line-long}
+use Rattle.heads.specs.Head.{Heads, over}
+use Rattle.agreement.specs.Line.{exact-line}
 use Rattle.agreement.specs.Places.{at-drop}
 use Rattle.agreement.specs.FieldLine.{LineIs, ended, field, line-derived, end-read}
 use Rattle.agreement.specs.Fields.{line-at, one-more, one-over, the-end, line-first, line-within, few-fields}

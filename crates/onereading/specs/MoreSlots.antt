@@ -31,7 +31,7 @@ use Rattle.heads.specs.Head as heads
 use Rattle.heads.specs.Calls.{request, response}
 use Rattle.agreement.specs.Fields.{line-within}
 use Rattle.reader.specs.Known.{knownOf}
-use Rattle.agreement.specs.Exactly.{given-over}
+use Rattle.agreement.specs.Exactly.{given-over, line-over}
 use Rattle.agreement.specs.Kept.{told-bad, told-line}
 use Rattle.agreement.specs.Calls.{alone-told}
 use Rattle.onereading.specs.Statements.{MoreSlots}
@@ -76,14 +76,9 @@ module _ {K : Type 0} where
     same : {a : Heads K} → Wider a a
     full : {p : ℕ} {k : K} {hs : List Header} {b : Heads K} → knownOf b .0 ≡ k → Starts hs (given b) → Wider (bad (fault TooManyHeaders p, (k, hs))) b
 
-  over-known : (k : K) (b : Blocks) → knownOf (over k b) .0 ≡ k
-  over-known k (got hs q) = refl
-  over-known k (short hs) = refl
-  over-known k (bad x) = refl
-
   over-wider : (k : K) {a b : Blocks} → Roomier a b → Wider (over k a) (over k b)
   over-wider k Roomier.same = Wider.same
-  over-wider k (Roomier.full {hs = hs} {b = b} s) = Wider.full (over-known k b) (subst (Starts hs) (sym (given-over k b)) s)
+  over-wider k (Roomier.full {hs = hs} {b = b} s) = Wider.full (line-over k b) (subst (Starts hs) (sym (given-over k b)) s)
 
   headed-wider : {f g : K → ℕ → Heads K} (a : Answer K K (Fault × K)) → ((k : K) (q : ℕ) → Wider (f k q) (g k q)) → Wider (headed a f) (headed a g)
   headed-wider (got k q) h = h k q
