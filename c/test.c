@@ -34,11 +34,31 @@ struct expected {
     uint64_t slots[NUMBERS];
 };
 
+/* The settings that are for responses alone, and for requests alone. */
+#define FOR_RESPONSES (HR_SPACES_AFTER_HEADER_NAME | HR_MULTILINE_HEADERS | HR_SPACES_IN_STATUS_LINE)
+#define FOR_REQUESTS (HR_SPACES_IN_REQUEST_LINE | HR_ASCII_TARGETS)
+
+/* All of httparse's that there are, and with ours. */
+#define LENIENT (FOR_RESPONSES | HR_SPACES_IN_REQUEST_LINE | HR_SPACE_BEFORE_FIRST_HEADER_NAME)
+#define ALL (LENIENT | HR_ASCII_TARGETS)
+
 /* All bits without a meaning. */
-#define OTHER_BITS (~HR_ASCII_TARGETS)
+#define OTHER_BITS (~ALL)
 
 /* Every setting, with and without such bits. */
-static const uint32_t SETTINGS[] = {0, OTHER_BITS, HR_ASCII_TARGETS, HR_ASCII_TARGETS | OTHER_BITS};
+static const uint32_t SETTINGS[] = {
+    0,
+    OTHER_BITS,
+    HR_SPACES_AFTER_HEADER_NAME,
+    HR_MULTILINE_HEADERS,
+    HR_SPACES_IN_REQUEST_LINE,
+    HR_SPACES_IN_STATUS_LINE,
+    HR_SPACE_BEFORE_FIRST_HEADER_NAME,
+    HR_ASCII_TARGETS,
+    HR_ASCII_TARGETS | OTHER_BITS,
+    LENIENT,
+    ALL | OTHER_BITS,
+};
 
 #define SETTING_COUNT (sizeof SETTINGS / sizeof SETTINGS[0])
 
@@ -46,7 +66,7 @@ static const uint32_t SETTINGS[] = {0, OTHER_BITS, HR_ASCII_TARGETS, HR_ASCII_TA
 #define TEN "aaaaaaaaaa"
 #define SEVENTY TEN TEN TEN TEN TEN TEN TEN
 
-/* No target here has a byte from 0x80 on, so every setting leads to the same answers. */
+/* Nothing here is what a setting is about, so every setting leads to the same answers. */
 static const struct expected CASES[] = {
     {REQUEST, "GET / HTTP/1.1\r\nHost: a\r\nX:\r\n\r\nbody", HR_COMPLETE,
      {31, 2, REQUEST_LINE, 0, 3, 4, 1, 1}, {16, 4, 22, 1, 25, 1, 27, 0}},
@@ -92,6 +112,51 @@ static const struct expected BEYOND_ASCII[] = {
 
 #define BEYOND_ASCII_COUNT (sizeof BEYOND_ASCII / sizeof BEYOND_ASCII[0])
 
+/* What a setting is about, as it is read with that setting, and as it is read without it, whatever else is on. */
+static const struct {
+    uint32_t setting;
+    struct expected on, off;
+} LENIENCIES[] = {
+    {HR_SPACES_AFTER_HEADER_NAME,
+     {RESPONSE, "HTTP/1.1 200\nA\t  : b\n\n", HR_COMPLETE, {22, 1, STATUS_LINE, 1, 200, 0, 0, 0}, {13, 1, 19, 1}},
+     {RESPONSE, "HTTP/1.1 200\nA\t  : b\n\n", HR_HEADER_NAME, {14, 0, STATUS_LINE, 1, 200, 0, 0, 0}, {0}}},
+    {HR_MULTILINE_HEADERS,
+     {RESPONSE, "HTTP/1.1 200\nA: b\r\n\tc \n\n", HR_COMPLETE, {24, 1, STATUS_LINE, 1, 200, 0, 0, 0}, {13, 1, 16, 5}},
+     {RESPONSE, "HTTP/1.1 200\nA: b\r\n\tc \n\n", HR_HEADER_NAME, {19, 1, STATUS_LINE, 1, 200, 0, 0, 0}, {13, 1, 16, 1}}},
+    {HR_MULTILINE_HEADERS,
+     {RESPONSE, "HTTP/1.1 200\nA:\n \n\n", HR_COMPLETE, {19, 1, STATUS_LINE, 1, 200, 0, 0, 0}, {13, 1, 17, 0}},
+     {RESPONSE, "HTTP/1.1 200\nA:\n \n\n", HR_HEADER_NAME, {16, 1, STATUS_LINE, 1, 200, 0, 0, 0}, {13, 1, 15, 0}}},
+    {HR_MULTILINE_HEADERS,
+     {RESPONSE, "HTTP/1.1 200\nA: b\n\t\n\n", HR_COMPLETE, {21, 1, STATUS_LINE, 1, 200, 0, 0, 0}, {13, 1, 16, 1}},
+     {RESPONSE, "HTTP/1.1 200\nA: b\n\t\n\n", HR_HEADER_NAME, {18, 1, STATUS_LINE, 1, 200, 0, 0, 0}, {13, 1, 16, 1}}},
+    {HR_MULTILINE_HEADERS,
+     {RESPONSE, "HTTP/1.1 200\nA: b\n", HR_INCOMPLETE, {0, 0, STATUS_LINE, 1, 200, 0, 0, 0}, {0}},
+     {RESPONSE, "HTTP/1.1 200\nA: b\n", HR_INCOMPLETE, {0, 1, STATUS_LINE, 1, 200, 0, 0, 0}, {13, 1, 16, 1}}},
+    {HR_SPACES_IN_REQUEST_LINE,
+     {REQUEST, "GET  /   HTTP/1.1\n\n", HR_COMPLETE, {19, 0, REQUEST_LINE, 0, 3, 5, 1, 1}, {0}},
+     {REQUEST, "GET  /   HTTP/1.1\n\n", HR_TOKEN, {4, 0, HR_KNOWS_METHOD, 0, 3, 0, 0, 0}, {0}}},
+    {HR_SPACES_IN_REQUEST_LINE,
+     {REQUEST, "GET /  HTTP/1.1\n\n", HR_COMPLETE, {17, 0, REQUEST_LINE, 0, 3, 4, 1, 1}, {0}},
+     {REQUEST, "GET /  HTTP/1.1\n\n", HR_VERSION, {6, 0, HR_KNOWS_METHOD | HR_KNOWS_TARGET, 0, 3, 4, 1, 0}, {0}}},
+    {HR_SPACES_IN_STATUS_LINE,
+     {RESPONSE, "HTTP/1.1  200 OK\n\n", HR_COMPLETE, {18, 0, STATUS_LINE, 1, 200, 14, 2, 0}, {0}},
+     {RESPONSE, "HTTP/1.1  200 OK\n\n", HR_STATUS, {9, 0, HR_KNOWS_VERSION, 1, 0, 0, 0, 0}, {0}}},
+    {HR_SPACES_IN_STATUS_LINE,
+     {RESPONSE, "HTTP/1.1 200  \tOK\n\n", HR_COMPLETE, {19, 0, STATUS_LINE, 1, 200, 14, 3, 0}, {0}},
+     {RESPONSE, "HTTP/1.1 200  \tOK\n\n", HR_COMPLETE, {19, 0, STATUS_LINE, 1, 200, 13, 4, 0}, {0}}},
+    {HR_SPACE_BEFORE_FIRST_HEADER_NAME,
+     {REQUEST, "GET / HTTP/1.1\n \tA: b\n\n", HR_COMPLETE, {23, 1, REQUEST_LINE, 0, 3, 4, 1, 1}, {17, 1, 20, 1}},
+     {REQUEST, "GET / HTTP/1.1\n \tA: b\n\n", HR_HEADER_NAME, {15, 0, REQUEST_LINE, 0, 3, 4, 1, 1}, {0}}},
+    {HR_SPACE_BEFORE_FIRST_HEADER_NAME,
+     {REQUEST, "GET / HTTP/1.1\n \n\n", HR_COMPLETE, {17, 0, REQUEST_LINE, 0, 3, 4, 1, 1}, {0}},
+     {REQUEST, "GET / HTTP/1.1\n \n\n", HR_HEADER_NAME, {15, 0, REQUEST_LINE, 0, 3, 4, 1, 1}, {0}}},
+    {HR_SPACE_BEFORE_FIRST_HEADER_NAME,
+     {RESPONSE, "HTTP/1.1 200\n \t\r\nbody", HR_COMPLETE, {17, 0, STATUS_LINE, 1, 200, 0, 0, 0}, {0}},
+     {RESPONSE, "HTTP/1.1 200\n \t\r\nbody", HR_HEADER_NAME, {13, 0, STATUS_LINE, 1, 200, 0, 0, 0}, {0}}},
+};
+
+#define LENIENCY_COUNT (sizeof LENIENCIES / sizeof LENIENCIES[0])
+
 /* An input that is an error from its last byte on, where that lies, and with how many slots. */
 struct error {
     enum call call;
@@ -123,6 +188,8 @@ static const struct error ERRORS[] = {
     {RESPONSE, "HTTP/1.1 200 " SEVENTY "\177", HR_STATUS, 83, 0},
     {RESPONSE, "HTTP/1.1 200 OK\r\r", HR_STATUS, 16, 0},
     {REQUEST, "GET / HTTP/1.1\n:", HR_HEADER_NAME, 15, 0},
+    {REQUEST, "GET / HTTP/1.1\nA ", HR_HEADER_NAME, 16, 0},
+    {REQUEST, "GET / HTTP/1.1\nA: b\n\t", HR_HEADER_NAME, 20, 1},
     {RESPONSE, "HTTP/1.1 200 OK\r\nA: b\r\n ", HR_HEADER_NAME, 23, 1},
     {HEADERS, "A ", HR_HEADER_NAME, 1, 0},
     {HEADERS, "A: b\nC: d\nE\n", HR_HEADER_NAME, 11, 2},
@@ -149,6 +216,32 @@ static const struct error ERRORS[] = {
 };
 
 #define ERROR_COUNT (sizeof ERRORS / sizeof ERRORS[0])
+
+/* Errors that lie elsewhere with a setting, or that there are only with it. */
+static const struct {
+    uint32_t setting;
+    struct error error;
+} LENIENT_ERRORS[] = {
+    {HR_SPACES_AFTER_HEADER_NAME, {RESPONSE, "HTTP/1.1 200\nA \t\r", HR_HEADER_NAME, 16, 0}},
+    {HR_SPACES_AFTER_HEADER_NAME, {RESPONSE, "HTTP/1.1 200\nA b", HR_HEADER_NAME, 15, 0}},
+    {HR_SPACES_AFTER_HEADER_NAME, {RESPONSE, "HTTP/1.1 200\n:", HR_HEADER_NAME, 13, 0}},
+    {HR_MULTILINE_HEADERS, {RESPONSE, "HTTP/1.1 200\nA: b\n \001", HR_HEADER_VALUE, 19, 0}},
+    {HR_MULTILINE_HEADERS, {RESPONSE, "HTTP/1.1 200\nA: b\n c\rd", HR_HEADER_VALUE, 21, 0}},
+    {HR_MULTILINE_HEADERS, {RESPONSE, "HTTP/1.1 200\nA: b\n c\n:", HR_HEADER_NAME, 21, 1}},
+    {HR_MULTILINE_HEADERS, {RESPONSE, "HTTP/1.1 200\nA: b\nC", HR_TOO_MANY_HEADERS, 13, 0}},
+    {HR_MULTILINE_HEADERS, {RESPONSE, "HTTP/1.1 200\nA: b\n\tc\r\n\r", HR_TOO_MANY_HEADERS, 13, 0}},
+    {HR_MULTILINE_HEADERS, {RESPONSE, "HTTP/1.1 200\nA:\n \nCC:\n\td\n:", HR_TOO_MANY_HEADERS, 18, 1}},
+    {HR_SPACES_IN_REQUEST_LINE, {REQUEST, "GET  \t", HR_TOKEN, 5, 0}},
+    {HR_SPACES_IN_REQUEST_LINE, {REQUEST, "GET  /  \t", HR_VERSION, 8, 0}},
+    {HR_SPACES_IN_STATUS_LINE, {RESPONSE, "HTTP/1.1  \t", HR_STATUS, 10, 0}},
+    {HR_SPACES_IN_STATUS_LINE, {RESPONSE, "HTTP/1.1 200  \r\r", HR_STATUS, 15, 0}},
+    {HR_SPACE_BEFORE_FIRST_HEADER_NAME, {REQUEST, "GET / HTTP/1.1\n \t:", HR_HEADER_NAME, 17, 0}},
+    {HR_SPACE_BEFORE_FIRST_HEADER_NAME, {REQUEST, "GET / HTTP/1.1\n A:\n ", HR_HEADER_NAME, 19, 1}},
+    {HR_SPACE_BEFORE_FIRST_HEADER_NAME, {RESPONSE, "HTTP/1.1 200\n \rA", HR_NEW_LINE, 15, 0}},
+    {HR_SPACE_BEFORE_FIRST_HEADER_NAME, {RESPONSE, "HTTP/1.1 200\n \tA:\n", HR_TOO_MANY_HEADERS, 15, 0}},
+};
+
+#define LENIENT_ERROR_COUNT (sizeof LENIENT_ERRORS / sizeof LENIENT_ERRORS[0])
 
 /* A target that is no UTF-8 is refused at the space behind it, and at its first byte beyond ASCII where it must be ASCII. */
 static const struct {
@@ -310,26 +403,35 @@ static void test_position(const struct error *error, const char *behind, uint32_
     count_input(good, "the position of an error", error->input);
 }
 
-/* The bytes before a header without a slot have filled the slots, and one slot more holds that header. */
+/* The bytes up to a header without a slot and its first byte have filled the slots, and one slot more holds that header. */
 static void test_slots_before(const struct error *error, uint32_t settings) {
     const uint8_t *buf = (const uint8_t *)error->input;
-    struct answer before = ask_with(error->call, buf, error->position, error->slots * 4, settings);
+    struct answer begun = ask_with(error->call, buf, error->position + 1, error->slots * 4, settings);
     struct answer roomier = ask_with(error->call, buf, strlen(error->input), (error->slots + 1) * 4, settings);
-    bool good = before.status == HR_INCOMPLETE && told(&before, 1) == error->slots && roomier.status == HR_INCOMPLETE &&
-                told(&roomier, 1) == error->slots + 1 && roomier.slots[1 + error->slots * 4] == error->position;
+    bool good = begun.status == HR_INCOMPLETE && told(&begun, 1) == error->slots && told(&roomier, 1) == error->slots + 1 &&
+                roomier.slots[1 + error->slots * 4] == error->position;
     count_input(good, "the slots before an error", error->input);
+}
+
+static void test_error(const struct error *error, uint32_t settings) {
+    for (size_t i = 0; i < BEHIND_COUNT; i++)
+        test_position(error, BEHIND[i], settings);
+    if (error->status == HR_TOO_MANY_HEADERS)
+        test_slots_before(error, settings);
+}
+
+/* The settings that are not for a call. */
+static uint32_t without_effect(enum call call) {
+    return call == REQUEST ? FOR_RESPONSES : call == RESPONSE ? FOR_REQUESTS : ALL;
 }
 
 static void test_errors(uint32_t settings) {
     for (size_t i = 0; i < ERROR_COUNT; i++) {
-        for (size_t j = 0; j < BEHIND_COUNT; j++)
-            test_position(&ERRORS[i], BEHIND[j], settings);
-        if (ERRORS[i].status == HR_TOO_MANY_HEADERS)
-            test_slots_before(&ERRORS[i], settings);
+        test_error(&ERRORS[i], settings);
+        test_error(&ERRORS[i], settings | without_effect(ERRORS[i].call));
     }
     for (size_t i = 0; i < NO_UTF8_COUNT; i++)
-        for (size_t j = 0; j < BEHIND_COUNT; j++)
-            test_position(settings & HR_ASCII_TARGETS ? &NO_UTF8[i].ascii : &NO_UTF8[i].usual, BEHIND[j], settings);
+        test_error(settings & HR_ASCII_TARGETS ? &NO_UTF8[i].ascii : &NO_UTF8[i].usual, settings);
 }
 
 /* One header has room in seven numbers, and none in three: the second is one too many, and what is left over stays as it was. */
@@ -390,6 +492,15 @@ static void test_with_settings(const struct expected *expected, uint32_t setting
     test_before_a_wall(expected, settings, wall);
 }
 
+/* A setting alone, with all others, and all others without it. */
+static void test_leniency(size_t i, uint8_t *wall) {
+    uint32_t setting = LENIENCIES[i].setting;
+    test_with_settings(&LENIENCIES[i].on, setting, wall);
+    test_with_settings(&LENIENCIES[i].on, ALL | OTHER_BITS, wall);
+    test_with_settings(&LENIENCIES[i].off, 0, wall);
+    test_with_settings(&LENIENCIES[i].off, (ALL | OTHER_BITS) & ~setting, wall);
+}
+
 int main(void) {
     size_t page = (size_t)sysconf(_SC_PAGESIZE);
     uint8_t *pages = mmap(NULL, 2 * page, PROT_READ | PROT_WRITE, MAP_PRIVATE | MAP_ANONYMOUS, -1, 0);
@@ -405,8 +516,15 @@ int main(void) {
     }
     for (size_t i = 0; i < ROW_COUNT; i++)
         test_rows_before_a_wall(i, pages + page);
-    for (size_t i = 0; i < SETTING_COUNT; i++)
-        test_errors(SETTINGS[i]);
+    test_errors(0);
+    test_errors(OTHER_BITS);
+    test_errors(HR_ASCII_TARGETS);
+    for (size_t i = 0; i < LENIENCY_COUNT; i++)
+        test_leniency(i, pages + page);
+    for (size_t i = 0; i < LENIENT_ERROR_COUNT; i++) {
+        test_error(&LENIENT_ERRORS[i].error, LENIENT_ERRORS[i].setting);
+        test_error(&LENIENT_ERRORS[i].error, LENIENT_ERRORS[i].setting | HR_ASCII_TARGETS | OTHER_BITS);
+    }
     test_each_byte_of_a_target();
     test_few_slots();
     printf("%d passed, %d failed\n", passed, failed);

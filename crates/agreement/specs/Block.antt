@@ -17,6 +17,7 @@ use Rattle.fields.specs.Line.{Kind, lineStep}
 use Rattle.blocks.specs.Block.{taken, lapStep, blockStep, block-fresh}
 use Rattle.lengths.specs.Lengths.{ends-long}
 use Rattle.agreement.specs.Line.{Lined, exact-line}
+use Rattle.agreement.specs.Folded.{lines-longer}
 
 -- a line with the headers hs before it and n slots
 abbrev pub Lapped : Rules → ℕ → List Header → Relation (Turn (List Header) (List Header))
@@ -28,7 +29,7 @@ Blocked r n = Laps (Lapped r n) []
 pub line-long : (r : Rules) (p : ℕ) (w : List ℕ) (k : Kind) (rest : List ℕ) → Lined r p w k rest → 1 ≤ length w
 line-long r p w k rest (one b bs e h g) = ends-long (g .holds)
 line-long r p w k rest (other b bs e h g) =
-    omega (arith, ap length (g .whole), length-append (g .w₁) (g .w₂), ap length (g .left .whole), length-append (g .left .v) (58 ∷ []))
+    omega (arith, ap length (g .whole), length-append (g .w₁) (g .w₂), lines-longer (g .right .holds))
 
 module _ (r : Rules) (n : ℕ) where
   pub exact-block : Exact (blockStep r n) ([], fresh) (Blocked r n)

@@ -57,11 +57,11 @@ module _ {r : Rules} (fixed : Fixed r) (n : ℕ) where
       (λ z w rest k h g. response-derived fixed h g) (λ z e l c rest g h a b d. response-read fixed h a b d)
 
 module _ (r : Rules) (n : ℕ) where
-  request-lies : Lies (RequestInside r) (request r n)
+  request-lies : Lies r (RequestInside r) (request r n)
   unfolding request
   request-lies = head-lies r n (requests.requestLineStep r) requests.lineKnown (first start) (RequestInside r) (request-line-in r)
 
-  response-lies : Lies StatusInside (response r n)
+  response-lies : Lies r StatusInside (response r n)
   unfolding response
   response-lies = head-lies r n (statuses.statusLineStep r) statuses.lineKnown (first start) StatusInside (status-line-in r)
 
@@ -109,14 +109,14 @@ module _ (n : ℕ) where
     stays = λ s u x e. ap alone (bad-stays (lapwise (λ hs _. hs)) (blockStep default n) s u ([], fresh) 0 (over-bad {K = Unit {0}} tt (block default n [] s 0) x e));
   }
 
-headers-lie : (n : ℕ) → Lies lies-nowhere (headersOf n)
-headers-lie n = record { line = λ z. tt; fields = λ z. subst (Each (HeaderIn (length z))) (sym (given-over tt (block default n [] z 0))) (fields-in z default n [] 0 tt); are = λ z. subst (Each (HeaderIs z)) (sym (given-over tt (block default n [] z 0))) (fields-are z default n [] 0 tt) }
+headers-lie : (n : ℕ) → Lies default lies-nowhere (headersOf n)
+headers-lie n = record { line = λ z. tt; fields = λ z. subst (Each (HeaderIn (length z))) (sym (given-over tt (block default n [] z 0))) (fields-in z default n [] 0 tt); are = λ z. subst (Each (HeaderIs z default)) (sym (given-over tt (block default n [] z 0))) (fields-are z default n [] 0 tt) }
 
 module _ {r : Rules} (fixed : Fixed r) {s old : List ℕ} {end : Passed} {count : ℕ} {new : List ℕ} where
-  pub request-promise : {line : RequestLine} → Told (request r (length old / 4) s) end line count old new → HeadPromise (request-head r) RequestSays (RequestInside r) s old end line count new
+  pub request-promise : {line : RequestLine} → Told (request r (length old / 4) s) end line count old new → HeadPromise r (request-head r) RequestSays (RequestInside r) s old end line count new
   request-promise T = kept (request-exactly fixed (length old / 4)) (request-lies r (length old / 4)) T
 
-  pub response-promise : {line : StatusLine} → Told (response r (length old / 4) s) end line count old new → HeadPromise (response-head r) StatusSays StatusInside s old end line count new
+  pub response-promise : {line : StatusLine} → Told (response r (length old / 4) s) end line count old new → HeadPromise r (response-head r) StatusSays StatusInside s old end line count new
   response-promise T = kept (response-exactly fixed (length old / 4)) (response-lies r (length old / 4)) T
 
 -- where each error of a reader lies
@@ -150,7 +150,7 @@ alone-told {b} {r} {old} T =
       slots = T .slots ∙ ap (λ y. filled y old) (sym g);
     }
 
-pub headers-promise : {s old : List ℕ} {r : Block} {new : List ℕ} → blocks.Told (block default (length old / 4) [] s 0) r old new → HeadPromise block-alone says-nothing lies-nowhere s old (r .end) tt (r .count) new
+pub headers-promise : {s old : List ℕ} {r : Block} {new : List ℕ} → blocks.Told (block default (length old / 4) [] s 0) r old new → HeadPromise default block-alone says-nothing lies-nowhere s old (r .end) tt (r .count) new
 headers-promise {s} {old} T = kept (headers-exactly (length old / 4)) (headers-lie (length old / 4)) (alone-told T)
 
 pub headers-fault : {s old : List ℕ} {r : Block} {new : List ℕ} → blocks.Told (block default (length old / 4) [] s 0) r old new → FaultPromise default (length old / 4) (headersOf (length old / 4)) s (r .end)

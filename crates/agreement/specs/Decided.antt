@@ -5,10 +5,11 @@ use native.Mathlib.Omega.{arith}
 use native.Mathlib.Decide.{decLt}
 use mathlib.Core.Path.{_≡_, refl, sym, ap, _∙_}
 use mathlib.Core.Logic.{_⊎_, inl, inr}
-use mathlib.Core.List.{List, [], _++_}
+use mathlib.Core.List.{List, [], _++_, append-assoc}
+use mathlib.Core.Bool.{Bool, true, false, _&&_, and-false}
 use lib.Dec.{eqb, ltb}
-use lib.ListN.{length, take, drop, length-append, take-append-drop}
-use lib.Seq.{length-take-le, take-take}
+use lib.ListN.{length, getD, take, drop, length-append, take-append-drop}
+use lib.Seq.{length-take-le, take-all, take-at, take-take, getD-take}
 use Rattle.reader.specs.Machine.{gave, Step, runAt}
 use Rattle.reader.specs.Judged.{pass, judged}
 use Rattle.reader.specs.Seq.{first}
@@ -16,34 +17,34 @@ use Rattle.reader.specs.Branch.{fresh}
 use Rattle.reader.specs.Answer.{Answer, got, short, bad, answer, answered, answered-bad, lapwise}
 use Rattle.reader.specs.Chain.{nothing, part}
 use Rattle.reader.specs.Refusals.{Refusal, Refuses, refused-is}
-use Rattle.reader.specs.Decided.{refused-in, waits-before, decided-there, Takes, same-start, takes-judged, takes-seq}
+use Rattle.reader.specs.Skip.{Skipped}
+use Rattle.reader.specs.Decided.{refused-in, waits-before, decided-there, Taken, Takes, same-start, takes-judged, takes-seq}
 use Rattle.reader.specs.Tests.{split, never}
 use Rattle.octets.specs.Class.{isBlank, isHexDigit, isToken}
 use Rattle.rules.specs.Rules.{Rules, default}
 use Rattle.lengths.specs.Lengths.{ends-long}
+use Rattle.gaps.specs.Gap.{gapStep, gapEnd, end-skipped}
+use Rattle.parts.specs.declared.Error.{Error}
 use Rattle.parts.specs.declared.Error.the-variants.{NewLine, Status, Token, TooManyHeaders, Version}
 use Rattle.parts.specs.declared.Fault.{Fault}
 use Rattle.parts.specs.declared.Passed.{Passed}
 use Rattle.parts.specs.LineEnd.{begin, lineEndStep}
+use Rattle.parts.specs.LineEnd as lineends
 use Rattle.parts.specs.EmptyLines.{emptyLinesStep}
 use Rattle.words.specs.Word.{none, wordStep}
-use Rattle.words.specs.Target.{targetByte, targetStep}
-use Rattle.words.specs.Target as targets
 use Rattle.versions.specs.Version.{name, versionStep}
 use Rattle.spaces.specs.Space.{spaceStep, behindCodeStep}
-use Rattle.status.specs.Code.{codeStep}
-use Rattle.status.specs.Code as codes
 use Rattle.status.specs.Reason.{reasonStep}
 use Rattle.status.specs.Reason as reasons
 use Rattle.blocks.specs.Block.{Blocks, blockStep, block}
 use Rattle.requestline.specs.RequestLine as requests
 use Rattle.statusline.specs.StatusLine as statuses
 use Rattle.startline.specs.Answers.{tell}
-use Rattle.heads.specs.Head.{Heads, Known, headStep, headKnown, over, headed, head-parts, given, Told}
+use Rattle.heads.specs.Head.{Heads, blanksBefore, section, section-block, Known, headStep, headKnown, over, headed, head-parts, given, Told}
 use Rattle.heads.specs.Head as heads
 use Rattle.chunks.specs.Chunk.{digits, blanks, extension, cr, behindStep, chunkStep, chunk}
 use Rattle.agreement.specs.Full.{Ordinary, which, Full, LocatedLine, head-full, block-full}
-use Rattle.agreement.specs.Overflow.{end-takes, one-too-many}
+use Rattle.agreement.specs.Overflow.{one-too-many}
 use Rattle.agreement.specs.Promises.{Waits, OneTooMany, FaultAt, FaultPromise, SizeFaultAt}
 
 -- a block's error behind a start line
@@ -63,11 +64,23 @@ not-before read z {x} {p} {q} there w = by (decLt q p)
         let u = sym (there (drop (q + 1) (take p z))) ∙ ap read same ∙ w .1 in
         never cc
 
--- before the header that has no slot
-pub first-waits : {K : Type 0} {r : Rules} {n : ℕ} {read : List ℕ → Heads K} {z : List ℕ} {p : ℕ} (O : OneTooMany r n read z p) → read (take p z) ≡ short (O .known, O .headers)
-first-waits {read = read} {z = z} {p = p} O =
-    let i : p ≡ p + 0 = omega arith in
-    ap (λ y. read (take y z)) i ∙ O .waits 0 (omega (arith, length-append (O .line) (O .end), ends-long (O .is-end)))
+-- the header that has no slot begins where the bytes are not yet decided
+many-wait : {K : Type 0} {r : Rules} {n : ℕ} {read : List ℕ → Heads K} {z : List ℕ} {p : ℕ} → OneTooMany r n read z p → (k : ℕ) × (p ≤ k) × Waits (read (take k z))
+many-wait {r = r} {read = read} {z = z} {p = p} O = by (r .multiline-headers) refl
+  where
+    size : Dec (length z < p) → p ≤ length (take p z)
+    size (yes l) = absurd (omega (arith, ap length (O .whole), length-append (take p z) ((O .line ++ O .end) ++ O .rest), length-append (O .line ++ O .end) (O .rest), length-append (O .line) (O .end), ends-long (O .is-end), ap length (take-all p z (omega arith))))
+    size (no l) = omega (arith, length-take-le p z (omega arith))
+
+    by : (t : Bool) → r .multiline-headers ≡ t → (k : ℕ) × (p ≤ k) × Waits (read (take k z))
+    by false t =
+        let i : p ≡ p + 0 = omega arith in
+        (p, omega arith, ((O .known, O .headers), ap (λ y. read (take y z)) i ∙ O .waits 0 (λ _. t) (omega (arith, length-append (O .line) (O .end), ends-long (O .is-end)))))
+    by true t =
+        let k : ℕ = length (take p z ++ (O .line ++ O .end)) in
+        let all-of : z ≡ (take p z ++ (O .line ++ O .end)) ++ O .rest = O .whole ∙ sym (append-assoc (take p z) (O .line ++ O .end) (O .rest)) in
+        let up-to : take k z ≡ take p z ++ (O .line ++ O .end) = ap (take k) all-of ∙ take-at (take p z ++ (O .line ++ O .end)) (O .rest) k refl in
+        (k, omega (arith, length-append (take p z) (O .line ++ O .end), size (decLt (length z) p)), ((O .known, O .headers), ap read up-to ∙ O .undecided t))
 
 -- an error lies no further than the byte at q, which decided it
 module _ {K : Type 0} {r : Rules} {n : ℕ} {read : List ℕ → Heads K} {z : List ℕ} {x : Fault × Known K} {q : ℕ} (is : read z ≡ bad x) (full : Full n q (x .0) (x .1 .1)) (within : q < length z)
@@ -76,7 +89,7 @@ module _ {K : Type 0} {r : Rules} {n : ℕ} {read : List ℕ → Heads K} {z : L
   no-further = by (which (x .0 .error))
     where
       by : (x .0 .error ≡ TooManyHeaders) ⊎ Ordinary (x .0 .error) → x .0 .position ≤ q
-      by (inl t) = not-before read z there ((many t .known, many t .headers), first-waits (many t))
+      by (inl t) = let w = many-wait (many t) in let l : w .0 ≤ q = not-before read z there (w .2) in omega (arith, w .1, l)
       by (inr o) = omega (arith, full .there o)
 
   located-at : FaultAt r n read z (x .0)
@@ -87,6 +100,27 @@ module _ {K : Type 0} {r : Rules} {n : ℕ} {read : List ℕ → Heads K} {z : L
     there = λ o u. ap (λ y. read (take (y + 1) z ++ u)) (full .there o) ∙ there u ∙ sym is;
     too-many = many;
   }
+
+-- the blanks before a block are there in any input that begins as z does up to a position c behind them, and has no blank at c
+gap-there : (r : Rules) (z y : List ℕ) (c : ℕ) {q e : ℕ} → Skipped (blanksBefore r) z q e → e ≤ c → c ≤ length z → take c y ≡ take c z → (c < length y → isBlank (getD y c 0) ≡ false) → Skipped (blanksBefore r) y q e
+gap-there r z y c {q} {e} g l i same stops = record {
+  passed = record { from = g .passed .from; inside = λ _. omega (arith, size, l); past = λ p. omega (arith, size, l, p, g .passed .from); all = λ k lo hi. ap (blanksBefore r) (byte k (omega (arith, l, hi))) ∙ g .passed .all k lo hi };
+  stop = λ h. by h (decLt e c);
+}
+  where
+    byte : (k : ℕ) → k < c → getD y k 0 ≡ getD z k 0
+    byte k h = sym (getD-take c y k 0 h) ∙ ap (λ w. getD w k 0) same ∙ getD-take c z k 0 h
+
+    size : c ≤ length y
+    size = at-least (decLt (length y) c)
+      where
+        at-least : Dec (length y < c) → c ≤ length y
+        at-least (no h) = omega arith
+        at-least (yes h) = absurd (omega (arith, h, ap length same, length-take-le c z i, ap length (take-all c y (omega arith))))
+
+    by : e < length y → Dec (e < c) → blanksBefore r (getD y e 0) ≡ false
+    by h (yes k) = ap (blanksBefore r) (byte e k) ∙ g .stop (omega (arith, k, i))
+    by h (no k) = let e-is : e ≡ c = omega arith in let b : isBlank (getD y e 0) ≡ false = ap (λ w. isBlank (getD y w 0)) e-is ∙ stops (omega (arith, e-is, h)) in rw b (and-false (r .space-before-first-name))
 
 module _ (r : Rules) (n : ℕ) {K S : Type 0} (m : Step S K (Fault × K)) (known : S → K) (s : S) (M : Refuses LocatedLine m) (T : Takes m) where
   abbrev read : List ℕ → Heads K
@@ -102,11 +136,14 @@ module _ (r : Rules) (n : ℕ) {K S : Type 0} (m : Step S K (Fault × K)) (known
   head-too-many : (z : List ℕ) (x : Fault × Known K) → read z ≡ bad x → x .0 .error ≡ TooManyHeaders → OneTooMany r n read z (x .0 .position)
   head-too-many z x e o = by (answer known (runAt m s z 0)) refl (sym (head-parts r n m known s z) ∙ e)
     where
-      by : (a : Answer K K (Fault × K)) → answer known (runAt m s z 0) ≡ a → headed a (λ k q. over k (block r n [] z q)) ≡ bad x → OneTooMany r n read z (x .0 .position)
+      by : (a : Answer K K (Fault × K)) → answer known (runAt m s z 0) ≡ a → headed a (λ k q. over k (section r n z q)) ≡ bad x → OneTooMany r n read z (x .0 .position)
       by (got k q) h b =
           let u = answered-bad (headKnown r n m known s) _ e in
-          one-too-many z r n (x .0) (x .1 .1) o read k q (over-bad k (block r n [] z q) x b) (head-full r n m known s M z x (u .0) (u .1) .full o)
-          (λ l i y same. head-parts r n m known s y ∙ ap (λ a. headed a (λ k q. over k (block r n [] y q))) (start-there z y (x .0 .position) q k h l i same))
+          let g : Skipped (blanksBefore r) z q (gapEnd (blanksBefore r) z q) = end-skipped (blanksBefore r) z q in
+          one-too-many z r n (x .0) (x .1 .1) o read k (gapEnd (blanksBefore r) z q) (sym (section-block r n g) ∙ over-bad k (section r n z q) x b) (head-full r n m known s M z x (u .0) (u .1) .full o)
+          (λ l i y same stops.
+          head-parts r n m known s y ∙ ap (λ a. headed a (λ k q. over k (section r n y q))) (start-there z y (x .0 .position) q k h (omega (arith, l, g .passed .from)) i same)
+          ∙ ap (over k) (section-block r n (gap-there r z y (x .0 .position) g l i same stops)))
       by (short k) h b = never cc
       by (bad y) h b =
           let v : _≡_ {A = Fault × Known K} (y .0, (y .1, [])) x = cc in
@@ -134,32 +171,37 @@ module _ (r : Rules) (n : ℕ) (z : List ℕ) (x : Fault × Known (Unit {0})) wh
       let b : block r n [] z 0 ≡ bad (x .0, x .1 .1) = over-bad {K = Unit {0}} tt (block r n [] z 0) x e in
       let u = answered-bad (lapwise (λ hs _. hs)) _ b in
       let F = block-full r n z (x .0, x .1 .1) (u .0) (u .1) in
-      let many : x .0 .error ≡ TooManyHeaders → OneTooMany r n blockOf z (x .0 .position) = λ o. one-too-many z r n (x .0) (x .1 .1) o blockOf tt 0 b (F .full o) (λ l i y same. refl) in
+      let many : x .0 .error ≡ TooManyHeaders → OneTooMany r n blockOf z (x .0 .position) = λ o. one-too-many z r n (x .0) (x .1 .1) o blockOf tt 0 b (F .full o) (λ l i y same stops. refl) in
       located-at e F (refused-in (lapwise (λ hs _. hs)) (blockStep r n) ([], fresh) z (u .1))
       (λ k l. let w = waits-before (lapwise (λ hs _. hs)) (blockStep r n) ([], fresh) z (u .1) k l in ((tt, w .0), ap (over tt) (w .1)))
       (λ w. ap (over tt) (decided-there (lapwise (λ hs _. hs)) (blockStep r n) ([], fresh) z (u .1) w) ∙ ap (over tt) (sym b) ∙ e) many
 
 -- start lines take their last byte
+end-takes : (r : Rules) (x : Error) → Takes (lineEndStep r x)
+end-takes r x begin p b = split Taken (eqb b 13) (λ _. tt) (λ _. split Taken (r .lf-alone && eqb b 10) (λ _. tt) (λ _. tt))
+end-takes r x lineends.cr p b = split Taken (eqb b 10) (λ _. tt) (λ _. tt)
+
 takes-part : {S A K : Type 0} (k : K) (f : A → K) (m : Step S A Fault) → Takes m → Takes (part k f m)
 takes-part k f m T = takes-judged f (λ e. (e, k)) m T
 
 pub request-takes : (r : Rules) → Takes (requests.requestLineStep r)
 request-takes r =
     takes-seq (part requests.unread (λ _. requests.unread) (emptyLinesStep r)) (λ _. first none) (requests.methodOn r) (λ k.
-    takes-seq (part k (requests.withMethod k) (wordStep isToken 32 Token)) (λ _. first targets.none) (requests.targetOn r) (λ k.
-    takes-seq (part k (requests.withTarget k) (targetStep (targetByte (r .any-target)))) (λ _. first name) (requests.versionOn r) (λ k.
-    takes-seq (part k (requests.withVersion k) versionStep) (λ _. begin) (requests.endStep r) (λ k.
+    takes-seq (part k (requests.withMethod k) (wordStep isToken 32 Token)) (λ _. first (first tt)) (requests.targetOn r) (λ k.
+    takes-seq (part k (requests.withTarget k) (requests.gapTarget r)) (λ _. first (first tt)) (requests.versionOn r) (λ k.
+    takes-seq (part k (requests.withVersion k) (requests.gapVersion r)) (λ _. begin) (requests.endStep r) (λ k.
     takes-part k (λ _. k) (lineEndStep r NewLine) (end-takes r NewLine)))))
 
 pub status-takes : (r : Rules) → Takes (statuses.statusLineStep r)
 status-takes r =
     takes-seq (part statuses.unread (λ _. statuses.unread) (emptyLinesStep r)) (λ _. first name) (statuses.versionOn r) (λ k.
     takes-seq (part k (statuses.withVersion k) versionStep) (λ _. first tt) (statuses.spaceOn r) (λ k.
-    takes-seq (part k (λ _. k) (spaceStep Version)) (λ _. first codes.none) (statuses.codeOn r) (λ k.
-    takes-seq (part k (statuses.withCode k) codeStep) (λ _. first tt) (statuses.behindOn r) (λ k.
-    takes-seq (part k (λ _. k) (behindCodeStep r)) (λ _. first reasons.none) (statuses.reasonOn r) (λ k.
-    takes-part k (statuses.withReason k) (statuses.reasonEndStep r)
-    (takes-seq reasonStep (λ _. begin) (λ w. judged (λ _. pass w) (λ e. e) (lineEndStep r Status)) (λ w. takes-judged (λ _. w) (λ e. e) (lineEndStep r Status) (end-takes r Status))))))))
+    takes-seq (part k (λ _. k) (spaceStep Version)) (λ _. first (first tt)) (statuses.codeOn r) (λ k.
+    takes-seq (part k (statuses.withCode k) (statuses.gapCode r)) (λ _. first tt) (statuses.behindOn r) (λ k.
+    takes-seq (part k (λ _. k) (behindCodeStep r)) (λ _. first tt) (statuses.reasonOn r) (λ k.
+    takes-part k (statuses.withReason k) (statuses.gapReason r)
+    (takes-seq (gapStep (statuses.moreSpaces r)) (λ _. first reasons.none) (λ _. statuses.reasonEndStep r) (λ _.
+    takes-seq reasonStep (λ _. begin) (λ w. judged (λ _. pass w) (λ e. e) (lineEndStep r Status)) (λ w. takes-judged (λ _. w) (λ e. e) (lineEndStep r Status) (end-takes r Status)))))))))
 
 -- a chunk size line
 behind-here : (v p b : ℕ) → Refusal (λ x. x ≡ p) (behindStep v p b)

@@ -10,7 +10,7 @@ use Rattle.reader.specs.Tests.{never}
 use Rattle.exact.specs.Branch.{one, other}
 use Rattle.octets.specs.Class.{isToken}
 use Rattle.octets.specs.Ties.{token-is-tchar}
-use Rattle.octets.specs.Outside.{differs-test, cr-no-token, lf-no-token, cr-no-value, lf-no-value}
+use Rattle.octets.specs.Outside.{differs-test, cr-no-token, lf-no-token}
 use Rattle.rules.specs.Rules.{Rules}
 use Rattle.grammar.specs.Rows.{some}
 use Rattle.grammar.specs.Fields.{Field}
@@ -20,53 +20,49 @@ use Rattle.parts.specs.declared.Piece.{Piece}
 use Rattle.parts.specs.Answers.{piece}
 use Rattle.fields.specs.declared.Header.{Header}
 use Rattle.fields.specs.Line.{Kind, header, end, named, ends}
-use Rattle.leaves.specs.Value.{Stop, Valued, empty, full}
 use Rattle.agreement.specs.Line.{Fielded, Lined}
 use Rattle.agreement.specs.Places.{held, At, at-as, at-first, at-second, held-at}
 use Rattle.agreement.specs.Steps.{passed-is}
-use Rattle.agreement.specs.Rows.{tokens, in-token}
-use Rattle.agreement.specs.Value.{value-derived, value-read}
+use Rattle.agreement.specs.Names.{NameIs, name-derived, name-read, name-in}
+use Rattle.agreement.specs.Folded.{NoBlank, lines-derived, lines-read, lines-in}
 
 -- the field that a header's pieces hold
 abbrev pub fieldOf : List ℕ → Header → Field
 fieldOf z h = record { name = held z (h .name); value = held z (h .value) }
 
--- a line in the grammar's words
-pub data LineIs (z : List ℕ) (r : Rules) (w : List ℕ) (k : Kind) : Type 0 where
-  ended : k ≡ end → line-end r w → LineIs z r w k
-  field : (h : Header) (l e : List ℕ) → k ≡ header h → w ≡ l ++ e → field-line l (fieldOf z h) → line-end r e → LineIs z r w k
+-- where a value may go on over several lines, the line behind its end begins with no blank
+abbrev pub NoMore : Rules → List ℕ → Type 0
+NoMore r rest = r .multiline-headers ≡ true → NoBlank rest
 
--- a line end's first byte ends a value, and is in no token
-pub end-stops : {r : Rules} {e : List ℕ} → line-end r e → (rest : List ℕ) → Stop (e ++ rest)
-end-stops crlf rest = record { b = 13; ys = 10 ∷ rest; whole = refl; stops = cr-no-value }
-end-stops (lf h) rest = record { b = 10; ys = rest; whole = refl; stops = lf-no-value }
+-- a line in the grammar's words
+pub data LineIs (z : List ℕ) (r : Rules) (w : List ℕ) (k : Kind) (rest : List ℕ) : Type 0 where
+  ended : k ≡ end → line-end r w → LineIs z r w k rest
+  field : (h : Header) (l e : List ℕ) → k ≡ header h → w ≡ l ++ e → field-line r l (fieldOf z h) → line-end r e → NoMore r rest → LineIs z r w k rest
 
 token-no-end : (r : Rules) (b : ℕ) → isToken b ≡ true → ends r b ≡ false
 token-no-end r b t = rw (differs-test isToken b 13 cr-no-token t, differs-test isToken b 10 lf-no-token t) (and-false (r .lf-alone))
 
--- name, colon, OWS, value, OWS, line end, in two ways of grouping
-regroup : (n c o v t e : List ℕ) → (n ++ c) ++ ((o ++ v ++ t) ++ e) ≡ n ++ c ++ o ++ v ++ t ++ e
-regroup n c o v t e = simp append-assoc
+-- name, what is behind it, colon, value with what is around it, line end, in two ways of grouping
+regroup : (n s c o v t e : List ℕ) → (n ++ s ++ c) ++ ((o ++ v ++ t) ++ e) ≡ n ++ s ++ c ++ o ++ v ++ t ++ e
+regroup n s c o v t e = simp append-assoc
 
 module _ {z : List ℕ} {r : Rules} {p : ℕ} {rest : List ℕ} where
-  fielded : {w : List ℕ} {k : Kind} → At z p w rest → Fielded r p w k rest → LineIs z r w k
+  fielded : {w : List ℕ} {k : Kind} → At z p w rest → Fielded r p w k rest → LineIs z r w k rest
   fielded {w = w} {k = k} h K =
-      let first = K .left in
+      let N = name-derived (K .left) in
       let second = K .right in
-      let n = first .v in
-      let e = second .w₂ in
       let h₁ = at-as (K .whole) h in
-      let h₂ = at-as (second .whole) (at-second (K .w₁) (K .w₂) h₁) in
-      let S = value-derived (at-first (second .w₁) e h₂) (second .left) in
-      let l = n ++ colon ++ S .o ++ S .v ++ S .t in
-      let named-n : held z (K .a) ≡ n = ap (held z) (first .place) ∙ held-at (at-first n colon (at-as (first .whole) (at-first (K .w₁) (K .w₂) h₁))) in
-      let kind : k ≡ named (K .a) (second .a) = cc in
-      let whole : w ≡ l ++ e = K .whole ∙ ap (λ y. y ++ K .w₂) (first .whole) ∙ ap (λ y. (n ++ colon) ++ y) (second .whole ∙ ap (λ y. y ++ e) (S .whole)) ∙ regroup n colon (S .o) (S .v) (S .t) e in
-      field (record { name = K .a; value = second .a }) l e kind whole
-      (subst (λ y. field-line l y) (ap (λ y. record { name = y; value = S .v }) (sym named-n) ∙ ap (λ y. record { name = held z (K .a); value = y }) (sym (S .holds))) (grammar.field-line.line (tokens (first .kind)) (S .left) (S .value) (S .right)))
-      (second .right .holds)
+      let S = lines-derived (at-second (K .w₁) (K .w₂) h₁) (second .holds) in
+      let n = N .n in
+      let l = n ++ N .s ++ colon ++ S .o ++ S .v ++ S .t in
+      let named-n : held z (K .a) ≡ n = ap (held z) (N .place) ∙ held-at (at-first n (N .s ++ colon) (at-as (N .whole ∙ append-assoc n (N .s) colon) (at-first (K .w₁) (K .w₂) h₁))) in
+      let kind : k ≡ named (K .a) (second .a) = passed-is (second .passes) in
+      let whole : w ≡ l ++ S .e = K .whole ∙ ap (λ y. y ++ K .w₂) (N .whole) ∙ ap (λ y. (n ++ N .s ++ colon) ++ y) (S .whole) ∙ regroup n (N .s) colon (S .o) (S .v) (S .t) (S .e) in
+      field (record { name = K .a; value = second .a }) l (S .e) kind whole
+      (subst (λ y. field-line r l y) (ap (λ y. record { name = y; value = S .v }) (sym named-n) ∙ ap (λ y. record { name = held z (K .a); value = y }) (sym (S .holds))) (grammar.field-line.line (N .name) (N .behind) (S .left) (S .value) (S .right)))
+      (S .ends) (S .next)
 
-  pub line-derived : {w : List ℕ} {k : Kind} → At z p w rest → Lined r p w k rest → LineIs z r w k
+  pub line-derived : {w : List ℕ} {k : Kind} → At z p w rest → Lined r p w k rest → LineIs z r w k rest
   line-derived {k = k} h (one b bs e t K) = let kind : k ≡ end = cc in ended kind (K .holds)
   line-derived h (other b bs e t K) = fielded h K
 
@@ -77,25 +73,25 @@ pub record Header-read (z : List ℕ) (r : Rules) (p : ℕ) (w : List ℕ) (f : 
   pub holds : fieldOf z h ≡ f
 
 module _ {z : List ℕ} {r : Rules} {p : ℕ} {rest : List ℕ} where
-  pub field-read : {l e : List ℕ} {f : Field} → At z p (l ++ e) rest → field-line l f → line-end r e → Header-read z r p (l ++ e) f rest
-  field-read {e = e} h (grammar.field-line.line {n = n} {o = o} {v = v} {t = t} (some {b = b} {w = m} x k) left value right) d =
-      let same : n ++ colon ++ o ++ v ++ t ++ e ≡ (n ++ colon) ++ ((o ++ v ++ t) ++ e) = sym (regroup n colon o v t e) in
+  pub field-read : {l e : List ℕ} {f : Field} → At z p (l ++ e) rest → field-line r l f → line-end r e → NoMore r rest → Header-read z r p (l ++ e) f rest
+  field-read {e = e} h (grammar.field-line.line {n = n} {s = s} {o = o} {v = v} {t = t} (some {b = b} {w = m} x k) behind left value right) d over =
+      let same : n ++ s ++ colon ++ o ++ v ++ t ++ e ≡ (n ++ s ++ colon) ++ ((o ++ v ++ t) ++ e) = sym (regroup n s colon o v t e) in
       let h₁ = at-as same h in
-      let h₂ = at-second (n ++ colon) ((o ++ v ++ t) ++ e) h₁ in
-      let G = value-read (at-first (o ++ v ++ t) e h₂) left value right (end-stops d rest) in
-      let named-n : held z (piece p (p + length n)) ≡ n = held-at (at-first n colon (at-first (n ++ colon) ((o ++ v ++ t) ++ e) h₁)) in
-      let K : Fielded r p (n ++ colon ++ o ++ v ++ t ++ e) (named (piece p (p + length n)) (G .a)) rest =
+      let h₂ = at-second (n ++ s ++ colon) ((o ++ v ++ t) ++ e) h₁ in
+      let G = lines-read h₂ left value right d over in
+      let named-n : held z (piece p (p + length n)) ≡ n = held-at (at-first n (s ++ colon) (at-as (append-assoc n s colon) (at-first (n ++ s ++ colon) ((o ++ v ++ t) ++ e) h₁))) in
+      let K : Fielded r p (n ++ s ++ colon ++ o ++ v ++ t ++ e) (named (piece p (p + length n)) (G .a)) rest =
       record {
-        w₁ = n ++ colon;
+        w₁ = n ++ s ++ colon;
         w₂ = (o ++ v ++ t) ++ e;
         a = piece p (p + length n);
-        left = record { v = n; kind = in-token (some x k); whole = refl; place = refl };
-        right = record { w₁ = o ++ v ++ t; w₂ = e; a = G .a; left = G .reads; right = record { a = tt; holds = d; passes = refl }; whole = refl };
+        left = name-read p (((o ++ v ++ t) ++ e) ++ rest) (some x k) behind;
+        right = record { a = G .a; holds = G .reads; passes = refl };
         whole = same;
       } in
       record {
         h = record { name = piece p (p + length n); value = G .a };
-        reads = other b (m ++ colon ++ o ++ v ++ t ++ e ++ rest) refl (token-no-end r b (token-is-tchar b .1 x)) K;
+        reads = other b (m ++ s ++ colon ++ o ++ v ++ t ++ e ++ rest) refl (token-no-end r b (token-is-tchar b .1 x)) K;
         holds = ap (λ y. record { name = y; value = held z (G .a) }) named-n ∙ ap (λ y. record { name = n; value = y }) (G .holds);
       }
 
@@ -114,10 +110,6 @@ PieceIn e a = a .offset + a .length ≤ e
 abbrev pub HeaderIn : ℕ → Header → Type 0
 HeaderIn e h = PieceIn e (h .name) × PieceIn e (h .value)
 
-value-in : {p : ℕ} {w rest : List ℕ} {a : Piece} → Valued p w a rest → PieceIn (p + length w) a
-value-in (empty {o = o} k s) = omega arith
-value-in {p} (full {o = o} {v = v} {t = t} k c u s) = omega (arith, length-append (o ++ v) t, length-append o v)
-
 kind-name : {h : Header} {n v : Piece} → header h ≡ named n v → h .name ≡ n
 kind-name e = cc
 
@@ -125,22 +117,19 @@ kind-value : {h : Header} {n v : Piece} → header h ≡ named n v → h .value 
 kind-value e = cc
 
 -- a header's name begins where its line does
-pub name-first : {r : Rules} {p : ℕ} {w rest : List ℕ} {h : Header} → Lined r p w (header h) rest → h .name .offset ≡ p
-name-first (one b bs e t K) = never cc
-name-first {h = h} (other b bs e t K) =
-    let same : header h ≡ named (K .a) (K .right .a) = passed-is (K .right .right .passes) in
-    ap (λ (y : Piece). y .offset) (kind-name same ∙ K .left .place)
+pub name-first : (r : Rules) {p : ℕ} {w rest : List ℕ} {h : Header} → Lined r p w (header h) rest → h .name .offset ≡ p
+name-first r (one b bs e t K) = never cc
+name-first r {p} {h = h} (other b bs e t K) =
+    let same : header h ≡ named (K .a) (K .right .a) = passed-is (K .right .passes) in
+    let N : NameIs r p (K .w₁) (K .a) = name-derived (K .left) in
+    ap (λ (y : Piece). y .offset) (kind-name same ∙ N .place)
 
 -- where a line is a header's, its pieces are those that were read
 pub line-in : {r : Rules} {p : ℕ} {w rest : List ℕ} {h : Header} → Lined r p w (header h) rest → HeaderIn (p + length w) h
 line-in (one b bs e t K) = never cc
-line-in {p = p} {w = w} {h = h} (other b bs e t K) =
-    let S = K .right in
-    let same : header h ≡ named (K .a) (S .a) = passed-is (S .right .passes) in
-    let name : h .name ≡ K .a = kind-name same in
-    let value : h .value ≡ S .a = kind-value same in
-    let l : length w ≡ length (K .w₁) + (length (S .w₁) + length (S .w₂)) = ap length (K .whole) ∙ length-append (K .w₁) (K .w₂) ∙ ap (λ y. length (K .w₁) + y) (ap length (S .whole) ∙ length-append (S .w₁) (S .w₂)) in
-    let m : length (K .w₁) ≡ length (K .left .v) + 1 = ap length (K .left .whole) ∙ length-append (K .left .v) colon in
-    let i : PieceIn (p + length (K .w₁)) (K .a) = subst (PieceIn (p + length (K .w₁))) (sym (K .left .place)) (omega (arith, m)) in
-    let j = value-in (S .left) in
-    (subst (PieceIn (p + length w)) (sym name) (omega (arith, i, l)), subst (PieceIn (p + length w)) (sym value) (omega (arith, j, l)))
+line-in {r} {p = p} {w = w} {h = h} (other b bs e t K) =
+    let same : header h ≡ named (K .a) (K .right .a) = passed-is (K .right .passes) in
+    let l : length w ≡ length (K .w₁) + length (K .w₂) = ap length (K .whole) ∙ length-append (K .w₁) (K .w₂) in
+    let i = name-in r (K .left) in
+    let j = lines-in (K .right .holds) in
+    (subst (PieceIn (p + length w)) (sym (kind-name same)) (omega (arith, i, l)), subst (PieceIn (p + length w)) (sym (kind-value same)) (omega (arith, j, l)))

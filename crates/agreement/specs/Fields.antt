@@ -17,8 +17,11 @@ use Rattle.reader.specs.Branch.{fresh}
 use Rattle.reader.specs.Tests.{split, never}
 use Rattle.exact.specs.Loop.{Laps, last, next}
 use Rattle.rules.specs.Rules.{Rules}
-use Rattle.grammar.specs.Fields.{field-name, field-value, Field}
-use Rattle.grammar.specs.Message.{field-line, header-block}
+use Rattle.octets.specs.Ties.{token-is-tchar}
+use Rattle.octets.specs.Outside.{cr-no-blank, lf-no-blank, token-no-blank}
+use Rattle.grammar.specs.Rows.{some}
+use Rattle.grammar.specs.Fields.{field-name, Field}
+use Rattle.grammar.specs.Message.{crlf, lf, value-lines, field-line, header-block}
 use Rattle.grammar.specs.Message as grammar
 use Rattle.parts.specs.declared.Error.the-variants.{TooManyHeaders}
 use Rattle.parts.specs.declared.Fault.{Fault}
@@ -30,6 +33,7 @@ use Rattle.agreement.specs.Line.{Lined, exact-line}
 use Rattle.agreement.specs.Block.{Lapped, line-long}
 use Rattle.agreement.specs.Places.{At, at-drop, at-first, at-second, from-at}
 use Rattle.agreement.specs.Known.{AreFields}
+use Rattle.agreement.specs.Folded.{NoBlank}
 use Rattle.agreement.specs.FieldLine.{fieldOf, LineIs, ended, field, line-derived, field-read, end-read, HeaderIn, name-first, line-in}
 
 -- the fields that headers hold
@@ -65,19 +69,19 @@ never-done true x hs b new e = never cc
 never-done false x hs b new e = never cc
 
 module _ {z : List ℕ} {r : Rules} {n : ℕ} where
-  last-line : (hs : List Header) (w : List ℕ) (b : List Header) (k : Kind) → LineIs z r w k → taken n hs k ≡ pass (done b) → Added z r n hs w b
+  last-line : (hs : List Header) (w : List ℕ) (b : List Header) (k : Kind) {rest : List ℕ} → LineIs z r w k rest → taken n hs k ≡ pass (done b) → Added z r n hs w b
   last-line hs w b k (ended e d) t =
       let t′ : _≡_ {A = Next} (pass (done hs)) (pass (done b)) = rw e at t in
       let same : b ≡ hs = cc in
       record { new = []; whole = same ∙ sym (append-nil hs); block = grammar.header-block.end d; fits = λ l. omega (arith, ap length same) }
-  last-line hs w b k (field h l e q s f d) t =
+  last-line hs w b k (field h l e q s f d o) t =
       let t′ : taken n hs (header h) ≡ pass (done b) = rw q at t in absurd (never-done (ltb (length hs) n) (fault TooManyHeaders (h .name .offset)) hs b (hs ++ (h ∷ [])) t′)
 
-  next-line : (hs hs′ : List Header) (w v : List ℕ) (b : List Header) (k : Kind) → LineIs z r w k → taken n hs k ≡ pass (again hs′) → Added z r n hs′ v b → Added z r n hs (w ++ v) b
+  next-line : (hs hs′ : List Header) (w v : List ℕ) (b : List Header) (k : Kind) {rest : List ℕ} → LineIs z r w k rest → taken n hs k ≡ pass (again hs′) → Added z r n hs′ v b → Added z r n hs (w ++ v) b
   next-line hs hs′ w v b k (ended e d) t A =
       let t′ : _≡_ {A = Next} (pass (done hs)) (pass (again hs′)) = rw e at t in
       never cc
-  next-line hs hs′ w v b k (field h l e q s f d) t A =
+  next-line hs hs′ w v b k (field h l e q s f d o) t A =
       let t′ : taken n hs (header h) ≡ pass (again hs′) = rw q at t in
       let u = again-is (ltb (length hs) n) (fault TooManyHeaders (h .name .offset)) hs hs′ (hs ++ (h ∷ [])) t′ in
       record {
@@ -90,6 +94,12 @@ module _ {z : List ℕ} {r : Rules} {n : ℕ} where
   pub block-derived : {hs : List Header} {p : ℕ} {w : List ℕ} {b : List Header} {rest : List ℕ} → At z p w rest → Laps (Lapped r n) hs p w b rest → Added z r n hs w b
   block-derived h (last {a = hs} {w = w} {b = b} K) = last-line hs w b (K .a) (line-derived h (K .holds)) (K .passes)
   block-derived h (next {a = hs} {a′ = hs′} {w₁ = w} {w₂ = v} {b = b} K k) = next-line hs hs′ w v b (K .a) (line-derived (at-first w v h) (K .holds)) (K .passes) (block-derived (at-second w v h) k)
+
+-- no block begins with a blank
+pub block-begins : {r : Rules} {b : List ℕ} {fs : List Field} → header-block r b fs → (rest : List ℕ) → NoBlank (b ++ rest)
+block-begins (grammar.header-block.end crlf) rest = record { b = 13; ys = 10 ∷ rest; whole = refl; solid = cr-no-blank }
+block-begins (grammar.header-block.end (lf h)) rest = record { b = 10; ys = rest; whole = refl; solid = lf-no-blank }
+block-begins (grammar.header-block.field (grammar.field-line.line (some {b = b} x n) s o v t) d k) rest = record { b = b; ys = _; whole = refl; solid = token-no-blank b (token-is-tchar b .1 x) }
 
 -- the answer of a line that stands at a place
 pub line-at : {z : List ℕ} {r : Rules} {p : ℕ} {w : List ℕ} {k : Kind} {rest : List ℕ} → At z p w rest → Lined r p w k rest → line r z p ≡ got k (p + length w)
@@ -121,9 +131,9 @@ module _ (z : List ℕ) (r : Rules) (n : ℕ) where
 
   pub block-read : {p : ℕ} {w rest : List ℕ} {fs : List Field} → At z p w rest → header-block r w fs → (hs : List Header) → length hs + length fs ≤ n → Fits hs p w fs
   block-read {p} h (grammar.header-block.end {e = e} d) hs l = record { new = []; holds = refl; answers = the-end hs p (p + length e) (line-at h (end-read d)) ∙ ap (λ y. got y (p + length e)) (sym (append-nil hs)) }
-  block-read {p} h (grammar.header-block.field {w = w} {e = e} {b = v} {f = g} f d k) hs l =
+  block-read {p} {rest = rest} h (grammar.header-block.field {w = w} {e = e} {b = v} {f = g} f d k) hs l =
       let h₁ = at-first (w ++ e) v h in
-      let H = field-read h₁ f d in
+      let H = field-read h₁ f d (λ _. block-begins k rest) in
       let q : ℕ = p + length (w ++ e) in
       let m : length (hs ++ (H .h ∷ [])) ≡ length hs + 1 = length-append hs (H .h ∷ []) in
       let K = block-read (at-second (w ++ e) v h) k (hs ++ (H .h ∷ [])) (omega (arith, m, l)) in
@@ -152,9 +162,9 @@ module _ (z : List ℕ) (r : Rules) (n : ℕ) where
 
   pub block-over : {p : ℕ} {w rest : List ℕ} {fs : List Field} → At z p w rest → header-block r w fs → (hs : List Header) → length hs ≤ n → n < length hs + length fs → Over hs p fs
   block-over h (grammar.header-block.end d) hs l o = absurd (omega (arith, l, o))
-  block-over {p} h (grammar.header-block.field {w = w} {e = e} {b = v} f d k) hs l o =
+  block-over {p} {rest = rest} h (grammar.header-block.field {w = w} {e = e} {b = v} f d k) hs l o =
       let h₁ = at-first (w ++ e) v h in
-      let H = field-read h₁ f d in
+      let H = field-read h₁ f d (λ _. block-begins k rest) in
       let m : length (hs ++ (H .h ∷ [])) ≡ length hs + 1 = length-append hs (H .h ∷ []) in
       over-by hs (H .h) (p + length (w ++ e)) (line-at h₁ (H .reads)) (H .holds) l
       (λ i. block-over (at-second (w ++ e) v h) k (hs ++ (H .h ∷ [])) (omega (arith, m, i)) (omega (arith, m, o))) (ltb (length hs) n) refl
@@ -169,7 +179,7 @@ module _ (z : List ℕ) (r : Rules) (n : ℕ) where
       (omega (arith, k .0, s, l), omega (arith, k .1, s, l))
 
   pub line-first : (p q : ℕ) (h : Header) → line r z p ≡ got (header h) q → h .name .offset ≡ p
-  line-first p q h e = name-first (exact-line r .sound p (drop p z) (header h) q (answered nothing _ e) .holds)
+  line-first p q h e = name-first r (exact-line r .sound p (drop p z) (header h) q (answered nothing _ e) .holds)
 
   -- a line's end is behind its start, and in the input
   pub line-within : (p q : ℕ) (k : Kind) → line r z p ≡ got k q → (p + 1 ≤ q) × (q ≤ length z)
@@ -206,30 +216,30 @@ module _ (z : List ℕ) (r : Rules) (n : ℕ) where
   fields-in = given-all (Each (HeaderIn (length z))) (λ hs h p q e l f. each-more (HeaderIn (length z)) hs h f (header-in p q h e))
 
 -- the name of a header that is given is a name, and its value a value
-abbrev pub HeaderIs : List ℕ → Header → Type 0
-HeaderIs z h = field-name (fieldOf z h .name) × field-value (fieldOf z h .value)
+abbrev pub HeaderIs : List ℕ → Rules → Header → Type 0
+HeaderIs z r h = field-name (fieldOf z h .name) × value-lines r (fieldOf z h .value)
 
-pub are-fields : (z : List ℕ) (hs : List Header) → Each (HeaderIs z) hs → AreFields (fieldsOf z hs)
-are-fields z [] k = tt
-are-fields z (h ∷ hs) k = (k .0 .0, k .0 .1, are-fields z hs (k .1))
+pub are-fields : (z : List ℕ) (r : Rules) (hs : List Header) → Each (HeaderIs z r) hs → AreFields r (fieldsOf z hs)
+are-fields z r [] k = tt
+are-fields z r (h ∷ hs) k = (k .0 .0, k .0 .1, are-fields z r hs (k .1))
 
-line-field : {l : List ℕ} {f : Field} → field-line l f → field-name (f .name) × field-value (f .value)
-line-field (grammar.field-line.line n o v t) = (n, v)
+line-field : {r : Rules} {l : List ℕ} {f : Field} → field-line r l f → field-name (f .name) × value-lines r (f .value)
+line-field (grammar.field-line.line n s o v t) = (n, v)
 
 header-same : {h g : Header} → header h ≡ header g → h ≡ g
 header-same e = cc
 
 module _ (z : List ℕ) (r : Rules) (n : ℕ) where
-  header-is : (p q : ℕ) (h : Header) → line r z p ≡ got (header h) q → HeaderIs z h
+  header-is : (p q : ℕ) (h : Header) → line r z p ≡ got (header h) q → HeaderIs z r h
   header-is p q h e =
       let P = exact-line r .sound p (drop p z) (header h) q (answered nothing _ e) in
       let s : 1 ≤ length (P .w) = line-long r p (P .w) (header h) (P .rest) (P .holds) in
       let l : length z - p ≡ length (P .w) + length (P .rest) = sym (length-drop p z) ∙ ap length (P .whole) ∙ length-append (P .w) (P .rest) in
       by (line-derived (at-drop z p (P .w) (P .rest) (P .whole) (omega (arith, s, l))) (P .holds))
     where
-      by : {w : List ℕ} → LineIs z r w (header h) → HeaderIs z h
+      by : {w rest : List ℕ} → LineIs z r w (header h) rest → HeaderIs z r h
       by (ended k d) = never cc
-      by (field g l e k w f d) = subst (HeaderIs z) (sym (header-same k)) (line-field f)
+      by (field g l e k w f d o) = subst (HeaderIs z r) (sym (header-same k)) (line-field f)
 
-  pub fields-are : (hs : List Header) (p : ℕ) → Each (HeaderIs z) hs → Each (HeaderIs z) (given (block r n hs z p))
-  fields-are = given-all z r n (Each (HeaderIs z)) (λ hs h p q e l f. each-more (HeaderIs z) hs h f (header-is p q h e))
+  pub fields-are : (hs : List Header) (p : ℕ) → Each (HeaderIs z r) hs → Each (HeaderIs z r) (given (block r n hs z p))
+  fields-are = given-all z r n (Each (HeaderIs z r)) (λ hs h p q e l f. each-more (HeaderIs z r) hs h f (header-is p q h e))

@@ -10,7 +10,7 @@ use lib.ListN.{length}
 use borrow.Author.Tests.{ltb-false}
 use Rattle.reader.specs.Machine.{refused, Step, runAt}
 use Rattle.reader.specs.Judged.{Verdict, pass, fail, judged}
-use Rattle.reader.specs.Seq.{first, seq}
+use Rattle.reader.specs.Seq.{first}
 use Rattle.reader.specs.Loop.{Turn, again}
 use Rattle.reader.specs.Branch.{fresh}
 use Rattle.reader.specs.Chain.{part}
@@ -23,9 +23,15 @@ use Rattle.parts.specs.declared.Error.{Error}
 use Rattle.parts.specs.declared.Error.the-variants.{HeaderName, HeaderValue, NewLine, Status, Token, TooManyHeaders, Version}
 use Rattle.parts.specs.declared.Fault.{Fault}
 use Rattle.parts.specs.Answers.{fault}
+use Rattle.parts.specs.Byte.{byteStep}
 use Rattle.parts.specs.LineEnd.{begin, cr, lineEndStep}
 use Rattle.parts.specs.EmptyLines.{start, cr as behind-cr, emptyLinesStep}
 use Rattle.words.specs.Word.{none, some, wordStep}
+use Rattle.gaps.specs.Gap.{gapStep, behindGap, blanksIf}
+use Rattle.names.specs.Name.{tokenStep, colonStep, gapColon, nameStep}
+use Rattle.names.specs.Name as names
+use Rattle.folds.specs.Folded.{valueLineStep, joined, nextStep, turn, foldedStep, nothing-yet, linesStep}
+use Rattle.folds.specs.Folded as folds
 use Rattle.words.specs.Target.{targetByte, targetStep}
 use Rattle.words.specs.Target as targets
 use Rattle.versions.specs.Version.{name, versionStep}
@@ -40,7 +46,7 @@ use Rattle.fields.specs.Line.{Kind, header, end, named, fieldStep, ends, lineSt
 use Rattle.blocks.specs.Block.{taken, lapStep, blockStep}
 use Rattle.requestline.specs.RequestLine as requests
 use Rattle.statusline.specs.StatusLine as statuses
-use Rattle.heads.specs.Head.{Known, blockOn, headStep}
+use Rattle.heads.specs.Head.{blanksBefore, sectionStep, Known, sectionOn, headStep}
 
 -- an error that says nothing of slots
 abbrev pub Ordinary : Error → Type 0
@@ -103,8 +109,8 @@ version-refuses : Refuses Located versionStep
 version-refuses [] p b = split (Refusal (Located p)) (eqb b 48) (λ _. tt) (λ _. split (Refusal (Located p)) (eqb b 49) (λ _. tt) (λ _. located version-ordinary p))
 version-refuses (c ∷ cs) p b = split (Refusal (Located p)) (eqb b c) (λ _. tt) (λ _. located version-ordinary p)
 
-space-refuses : (x : Error) → Ordinary x → Refuses Located (spaceStep x)
-space-refuses x o s p b = split (Refusal (Located p)) (eqb b 32) (λ _. tt) (λ _. located o p)
+byte-refuses : (c : ℕ) (x : Error) → Ordinary x → Refuses Located (byteStep c x)
+byte-refuses c x o s p b = split (Refusal (Located p)) (eqb b c) (λ _. tt) (λ _. located o p)
 
 behind-refuses : (r : Rules) → Refuses Located (behindCodeStep r)
 behind-refuses r s p b = split (Refusal (Located p)) (eqb b 32) (λ _. tt) (λ _. split (Refusal (Located p)) (r .code-ends-line && eqb b 13) (λ _. tt) (λ _. split (Refusal (Located p)) (r .code-ends-line && r .lf-alone && eqb b 10) (λ _. tt) (λ _. located status-ordinary p)))
@@ -122,14 +128,40 @@ value-refuses : Refuses Located valueStep
 value-refuses blanks p b = split (Refusal (Located p)) (isBlank b) (λ _. tt) (λ _. split (Refusal (Located p)) (isValue b) (λ _. tt) (λ _. tt))
 value-refuses (inside v e) p b = split (Refusal (Located p)) (isValue b) (λ _. tt) (λ _. tt)
 
+-- a gap refuses nothing
+gap-refuses : (class : ℕ → Bool) {S A F : Type 0} (P : ℕ → F → Type 0) (m : Step S A F) (s : S) → Refuses P m → Refuses P (behindGap class m s)
+gap-refuses class P m s M = refuses-seq P (gapStep class) (λ _. s) (λ _. m) (λ _ p b. split (Refusal (P p)) (class b) (λ _. tt) (λ _. tt)) (λ _. M)
+
+token-refuses : Refuses Located tokenStep
+token-refuses names.none p b = split (Refusal (Located p)) (isToken b) (λ _. tt) (λ _. located name-ordinary p)
+token-refuses (names.some a) p b = split (Refusal (Located p)) (isToken b) (λ _. tt) (λ _. tt)
+
+name-refuses : (r : Rules) → Refuses Located (nameStep r)
+name-refuses r =
+    refuses-seq Located tokenStep (λ _. first tt) (λ n. judged (λ _. pass n) (λ e. e) (gapColon r)) token-refuses (λ n.
+    refuses-judged Located Located (λ _. pass n) (λ e. e) (gapColon r) (passes Located (λ _. n)) (λ p e h. h) (gap-refuses (blanksIf (r .spaces-after-name)) Located colonStep tt (byte-refuses 58 HeaderName name-ordinary)))
+
+-- a value, over its lines
+value-line-refuses : (r : Rules) → Refuses Located (valueLineStep r)
+value-line-refuses r =
+    refuses-seq Located valueStep (λ v. begin) (λ v. judged (λ _. pass v) (λ e. e) (lineEndStep r HeaderValue)) value-refuses (λ v.
+    refuses-judged Located Located (λ _. pass v) (λ e. e) (lineEndStep r HeaderValue) (passes Located (λ _. v)) (λ p e h. h) (end-refuses r HeaderValue value-ordinary))
+
+lines-refuses : (r : Rules) → Refuses Located (linesStep r)
+lines-refuses r =
+    refuses-branch Located (λ _. r .multiline-headers) (foldedStep r) (nothing-yet, first (first blanks)) (valueLineStep r) (first blanks)
+    (refuses-loop (λ _. first (first blanks)) Located (folds.lapStep r) (λ a.
+    refuses-seq Located (valueLineStep r) (λ v. tt) (λ v. judged (λ t. pass (turn (joined a v) t)) (λ e. e) nextStep) (value-line-refuses r) (λ v.
+    refuses-judged Located Located (λ t. pass (turn (joined a v) t)) (λ e. e) nextStep (passes Located (turn (joined a v))) (λ p e h. h) (λ _ p b. tt))))
+    (value-line-refuses r)
+
 -- a line
 pub line-refuses : (r : Rules) → Refuses Located (lineStep r)
 line-refuses r =
-    refuses-branch Located (ends r) (judged (λ _. pass end) (λ e. e) (lineEndStep r NewLine)) begin (fieldStep r) (first none)
+    refuses-branch Located (ends r) (judged (λ _. pass end) (λ e. e) (lineEndStep r NewLine)) begin (fieldStep r) (first (first names.none))
     (refuses-judged Located Located (λ _. pass end) (λ e. e) (lineEndStep r NewLine) (passes Located (λ _. end)) (λ p e h. h) (end-refuses r NewLine line-ordinary))
-    (refuses-seq Located (wordStep isToken 58 HeaderName) (λ n. first blanks) (λ n. seq valueStep (λ v. begin) (λ v. judged (λ _. pass (named n v)) (λ e. e) (lineEndStep r HeaderValue))) (word-refuses isToken 58 HeaderName name-ordinary) (λ n.
-    refuses-seq Located valueStep (λ v. begin) (λ v. judged (λ _. pass (named n v)) (λ e. e) (lineEndStep r HeaderValue)) value-refuses (λ v.
-    refuses-judged Located Located (λ _. pass (named n v)) (λ e. e) (lineEndStep r HeaderValue) (passes Located (λ _. named n v)) (λ p e h. h) (end-refuses r HeaderValue value-ordinary))))
+    (refuses-seq Located (nameStep r) (λ n. fresh) (λ n. judged (λ v. pass (named n v)) (λ e. e) (linesStep r)) (name-refuses r) (λ n.
+    refuses-judged Located Located (λ v. pass (named n v)) (λ e. e) (linesStep r) (passes Located (named n)) (λ p e h. h) (lines-refuses r)))
 
 -- what a block refuses with: the byte at p decided, or the slots that hold hs are full
 pub record Full (n p : ℕ) (x : Fault) (hs : List Header) : Type 0 where
@@ -164,9 +196,9 @@ refuses-part k f m M = refuses-judged Located LocatedLine (λ a. pass (f a)) (λ
 pub request-refuses : (r : Rules) → Refuses LocatedLine (requests.requestLineStep r)
 request-refuses r =
     refuses-seq LocatedLine (part requests.unread (λ _. requests.unread) (emptyLinesStep r)) (λ _. first none) (requests.methodOn r) (refuses-part requests.unread (λ _. requests.unread) (emptyLinesStep r) (empties-refuse r)) (λ k.
-    refuses-seq LocatedLine (part k (requests.withMethod k) (wordStep isToken 32 Token)) (λ _. first targets.none) (requests.targetOn r) (refuses-part k (requests.withMethod k) (wordStep isToken 32 Token) (word-refuses isToken 32 Token token-ordinary)) (λ k.
-    refuses-seq LocatedLine (part k (requests.withTarget k) (targetStep (targetByte (r .any-target)))) (λ _. first name) (requests.versionOn r) (refuses-part k (requests.withTarget k) (targetStep (targetByte (r .any-target))) (target-refuses (targetByte (r .any-target)))) (λ k.
-    refuses-seq LocatedLine (part k (requests.withVersion k) versionStep) (λ _. begin) (requests.endStep r) (refuses-part k (requests.withVersion k) versionStep version-refuses) (λ k.
+    refuses-seq LocatedLine (part k (requests.withMethod k) (wordStep isToken 32 Token)) (λ _. first (first tt)) (requests.targetOn r) (refuses-part k (requests.withMethod k) (wordStep isToken 32 Token) (word-refuses isToken 32 Token token-ordinary)) (λ k.
+    refuses-seq LocatedLine (part k (requests.withTarget k) (requests.gapTarget r)) (λ _. first (first tt)) (requests.versionOn r) (refuses-part k (requests.withTarget k) (requests.gapTarget r) (gap-refuses (requests.moreSpaces r) Located (targetStep (targetByte (r .any-target))) targets.none (target-refuses (targetByte (r .any-target))))) (λ k.
+    refuses-seq LocatedLine (part k (requests.withVersion k) (requests.gapVersion r)) (λ _. begin) (requests.endStep r) (refuses-part k (requests.withVersion k) (requests.gapVersion r) (gap-refuses (requests.moreSpaces r) Located versionStep name version-refuses)) (λ k.
     refuses-part k (λ _. k) (lineEndStep r NewLine) (end-refuses r NewLine line-ordinary)))))
 
 reason-end-refuses : (r : Rules) → Refuses Located (statuses.reasonEndStep r)
@@ -178,10 +210,10 @@ pub status-refuses : (r : Rules) → Refuses LocatedLine (statuses.statusLineSte
 status-refuses r =
     refuses-seq LocatedLine (part statuses.unread (λ _. statuses.unread) (emptyLinesStep r)) (λ _. first name) (statuses.versionOn r) (refuses-part statuses.unread (λ _. statuses.unread) (emptyLinesStep r) (empties-refuse r)) (λ k.
     refuses-seq LocatedLine (part k (statuses.withVersion k) versionStep) (λ _. first tt) (statuses.spaceOn r) (refuses-part k (statuses.withVersion k) versionStep version-refuses) (λ k.
-    refuses-seq LocatedLine (part k (λ _. k) (spaceStep Version)) (λ _. first codes.none) (statuses.codeOn r) (refuses-part k (λ _. k) (spaceStep Version) (space-refuses Version version-ordinary)) (λ k.
-    refuses-seq LocatedLine (part k (statuses.withCode k) codeStep) (λ _. first tt) (statuses.behindOn r) (refuses-part k (statuses.withCode k) codeStep code-refuses) (λ k.
-    refuses-seq LocatedLine (part k (λ _. k) (behindCodeStep r)) (λ _. first reasons.none) (statuses.reasonOn r) (refuses-part k (λ _. k) (behindCodeStep r) (behind-refuses r)) (λ k.
-    refuses-part k (statuses.withReason k) (statuses.reasonEndStep r) (reason-end-refuses r))))))
+    refuses-seq LocatedLine (part k (λ _. k) (spaceStep Version)) (λ _. first (first tt)) (statuses.codeOn r) (refuses-part k (λ _. k) (spaceStep Version) (byte-refuses 32 Version version-ordinary)) (λ k.
+    refuses-seq LocatedLine (part k (statuses.withCode k) (statuses.gapCode r)) (λ _. first tt) (statuses.behindOn r) (refuses-part k (statuses.withCode k) (statuses.gapCode r) (gap-refuses (statuses.moreSpaces r) Located codeStep codes.none code-refuses)) (λ k.
+    refuses-seq LocatedLine (part k (λ _. k) (behindCodeStep r)) (λ _. first tt) (statuses.reasonOn r) (refuses-part k (λ _. k) (behindCodeStep r) (behind-refuses r)) (λ k.
+    refuses-part k (statuses.withReason k) (statuses.gapReason r) (gap-refuses (statuses.moreSpaces r) Located (statuses.reasonEndStep r) (first reasons.none) (reason-end-refuses r)))))))
 
 -- a head
 module _ (r : Rules) (n : ℕ) {K S : Type 0} (m : Step S K (Fault × K)) (known : S → K) (s : S) (M : Refuses LocatedLine m) where
@@ -190,9 +222,9 @@ module _ (r : Rules) (n : ℕ) {K S : Type 0} (m : Step S K (Fault × K)) (known
 
   head-refuses : Refuses FullHead (headStep r n m known s)
   head-refuses =
-      refuses-seq FullHead (judged pass (λ x. (x .0, (x .1, []))) m) (λ _. ([], fresh)) (blockOn r n m known s)
+      refuses-seq FullHead (judged pass (λ x. (x .0, (x .1, []))) m) (λ _. first tt) (sectionOn r n m known s)
       (refuses-judged LocatedLine FullHead pass (λ x. (x .0, (x .1, []))) m (passes FullHead (λ k. k)) (λ p x h. ordinary-full [] h) M)
-      (λ k. refuses-judged (λ p x. Full n p (x .0) (x .1)) FullHead (λ hs. pass (k, hs)) (λ x. (x .0, (k, x .1))) (blockStep r n) (passes FullHead (λ hs. (k, hs))) (λ p x h. h) (block-refuses r n))
+      (λ k. refuses-judged (λ p x. Full n p (x .0) (x .1)) FullHead (λ hs. pass (k, hs)) (λ x. (x .0, (k, x .1))) (sectionStep r n) (passes FullHead (λ hs. (k, hs))) (λ p x h. h) (gap-refuses (blanksBefore r) (λ p x. Full n p (x .0) (x .1)) (blockStep r n) ([], fresh) (block-refuses r n)))
 
   pub head-full : (z : List ℕ) (x : Fault × Known K) (q : ℕ) → runAt (headStep r n m known s) (first s) z 0 ≡ refused x q → Full n q (x .0) (x .1 .1)
   head-full z x q e = refused-is FullHead (headStep r n m known s) head-refuses z (first s) 0 x q e

@@ -6,6 +6,7 @@ use mathlib.Core.Path.{_≡_, refl, sym, ap, subst, _∙_}
 use mathlib.Core.List.{List, [], _∷_, _++_, append-nil}
 use lib.ListN.{length, drop, length-append, length-drop}
 use Rattle.reader.specs.Machine.{Step}
+use Rattle.reader.specs.Seq.{first}
 use Rattle.reader.specs.Answer.{Answer, got, short, bad, answered, and}
 use Rattle.reader.specs.Known.{knownOf, last-holds, chain-holds}
 use Rattle.reader.specs.Chain.{nothing, reads, ended}
@@ -23,11 +24,13 @@ use Rattle.parts.specs.Answers.{piece}
 use Rattle.parts.specs.LineEnd.{lineEnd}
 use Rattle.parts.specs.EmptyLines.{emptyLines}
 use Rattle.words.specs.Word.{word}
-use Rattle.words.specs.Target.{targetByte, target, space-no-target-byte}
+use Rattle.words.specs.Target.{targetByte, targetStep, space-no-target-byte}
+use Rattle.words.specs.Target as targets
+use Rattle.gaps.specs.Gap.{gapEnd, end-skipped, reads-behind}
 use Rattle.versions.specs.Version.{version}
 use Rattle.spaces.specs.Space.{space, behindCode}
-use Rattle.status.specs.Code.{code}
 use Rattle.status.specs.Reason.{reason}
+use Rattle.status.specs.Reason as reasons
 use Rattle.requestline.specs.declared.RequestLine.{RequestLine}
 use Rattle.requestline.specs.RequestLine as requests
 use Rattle.statusline.specs.declared.StatusLine.{StatusLine}
@@ -70,10 +73,10 @@ module _ (r : Rules) (z : List ℕ) where
   end-in k q h = last-holds In k (λ _. k) h (lineEnd r NewLine z q) (λ x i e. h)
 
   version-in : (k : RequestLine) (q : ℕ) → In k → In (knownOf (requests.fromVersion r z k q))
-  version-in k q h = chain-holds In k (requests.withVersion k) h (requests.fromEnd r z) (version z q) (λ v i e. end-in (requests.withVersion k v) i (record { method = h .method; target = h .target }))
+  version-in k q h = chain-holds In k (requests.withVersion k) h (requests.fromEnd r z) (reads (requests.gapVersion r) (first tt) z q) (λ v i e. end-in (requests.withVersion k v) i (record { method = h .method; target = h .target }))
 
   target-in : (k : RequestLine) (q : ℕ) → In k → In (knownOf (requests.fromTarget r z k q))
-  target-in k q h = chain-holds In k (requests.withTarget k) h (requests.fromVersion r z) (target (targetByte (r .any-target)) z q) (λ t i e. version-in (requests.withTarget k t) i (record { method = h .method; target = piece-in (exact-target (targetByte (r .any-target)) (space-no-target-byte (r .any-target))) (request-target r) (target-such r) z q t i e }))
+  target-in k q h = chain-holds In k (requests.withTarget k) h (requests.fromVersion r z) (reads (requests.gapTarget r) (first tt) z q) (λ t i e. version-in (requests.withTarget k t) i (record { method = h .method; target = piece-in (exact-target (targetByte (r .any-target)) (space-no-target-byte (r .any-target))) (request-target r) (target-such r) z (gapEnd (requests.moreSpaces r) z q) t i (sym (reads-behind (end-skipped (requests.moreSpaces r) z q) (targetStep (targetByte (r .any-target))) targets.none) ∙ e) }))
 
   method-in : (k : RequestLine) (q : ℕ) → In k → In (knownOf (requests.fromMethod r z k q))
   method-in k q h = chain-holds In k (requests.withMethod k) h (requests.fromTarget r z) (word isToken 32 Token z q) (λ m i e. target-in (requests.withMethod k m) i (record { method = piece-in (exact-word isToken 32 Token space-no-token) method word-such z q m i e; target = h .target }))
@@ -100,14 +103,16 @@ module _ (r : Rules) (z : List ℕ) where
 
   reason-in : (k : StatusLine) (q : ℕ) → Lies k → Lies (knownOf (statuses.fromReason r z k q))
   reason-in k q h =
-      last-holds Lies k (statuses.withReason k) h (statuses.reasonEnd r z q)
-      (λ w i e. let g = reason-got (reason z q) (λ w i. lineEnd r Status z i) w i e in record { reason = piece-in exact-reason (Many ascii-text) reason-such z q w (g .0) (g .1) })
+      let start : ℕ = gapEnd (statuses.moreSpaces r) z q in
+      let behind : reads (statuses.gapReason r) (first tt) z q ≡ statuses.reasonEnd r z start = reads-behind (end-skipped (statuses.moreSpaces r) z q) (statuses.reasonEndStep r) (first reasons.none) ∙ statuses.reason-end-parts r z start in
+      last-holds Lies k (statuses.withReason k) h (reads (statuses.gapReason r) (first tt) z q)
+      (λ w i e. let g = reason-got (reason z start) (λ w i. lineEnd r Status z i) w i (sym behind ∙ e) in record { reason = piece-in exact-reason (Many ascii-text) reason-such z start w (g .0) (g .1) })
 
   behind-in : (k : StatusLine) (q : ℕ) → Lies k → Lies (knownOf (statuses.fromBehind r z k q))
   behind-in k q h = chain-holds Lies k (λ _. k) h (statuses.fromReason r z) (behindCode r z q) (λ x i e. reason-in k i h)
 
   code-in : (k : StatusLine) (q : ℕ) → Lies k → Lies (knownOf (statuses.fromCode r z k q))
-  code-in k q h = chain-holds Lies k (statuses.withCode k) h (statuses.fromBehind r z) (code z q) (λ c i e. behind-in (statuses.withCode k c) i (record { reason = h .reason }))
+  code-in k q h = chain-holds Lies k (statuses.withCode k) h (statuses.fromBehind r z) (reads (statuses.gapCode r) (first tt) z q) (λ c i e. behind-in (statuses.withCode k c) i (record { reason = h .reason }))
 
   space-in : (k : StatusLine) (q : ℕ) → Lies k → Lies (knownOf (statuses.fromSpace r z k q))
   space-in k q h = chain-holds Lies k (λ _. k) h (statuses.fromCode r z) (space Version z q) (λ x i e. code-in k i h)

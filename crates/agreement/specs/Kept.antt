@@ -21,6 +21,7 @@ use Rattle.parts.specs.declared.Passed.the-variants.{At, More, Bad}
 use Rattle.fields.specs.declared.Header.{Header}
 use Rattle.blocks.specs.Slots.{flat, filled, length-flat}
 use Rattle.startline.specs.Answers.{tell}
+use Rattle.rules.specs.Rules.{Rules}
 use Rattle.heads.specs.Head.{Heads, Known, given, Told}
 use Rattle.agreement.specs.FieldLine.{fieldOf, HeaderIn}
 use Rattle.agreement.specs.Fields.{fieldsOf, Each, are-fields}
@@ -92,7 +93,7 @@ bad-same e = cc
 bad-more : {x : Fault} → Bad x ≡ More → ⊥
 bad-more e = never cc
 
-module _ {L K : Type 0} {Head : List ℕ → L → List Field → Type 0} {Says : List ℕ → K → L → Type 0} {s old : List ℕ} {end : Passed} {line : K} {count : ℕ} {new : List ℕ} {read : List ℕ → Heads K} {In : List ℕ → K → Type 0} (X : Exactly Head Says (length old / 4) read) (Y : Lies In read) (T : Told (read s) end line count old new) where
+module _ {L K : Type 0} {Head : List ℕ → L → List Field → Type 0} {Says : List ℕ → K → L → Type 0} {s old : List ℕ} {end : Passed} {line : K} {count : ℕ} {new : List ℕ} {read : List ℕ → Heads K} {r : Rules} {In : List ℕ → K → Type 0} (X : Exactly Head Says (length old / 4) read) (Y : Lies r In read) (T : Told (read s) end line count old new) where
   -- the slots hold what the reader has given
   in-slots : fieldsIn s count new ≡ fieldsOf s (given (read s))
   in-slots = ap (λ y. fieldsIn s y new) (T .count-is) ∙ ap (fieldsIn s (length (given (read s)))) (T .slots) ∙ fields-in s (given (read s)) old
@@ -155,7 +156,7 @@ module _ {L K : Type 0} {Head : List ℕ → L → List Field → Type 0} {Says 
       by false f = at-more (sym (accept w t l fs i h (ltb-false (length old / 4) (length fs) f) .0) ∙ e)
       by true f = bad-more (sym (overflow w t l fs i h (ltb-true (length old / 4) (length fs) f) .1) ∙ e)
 
-  pub kept : HeadPromise Head Says In s old end line count new
+  pub kept : HeadPromise r Head Says In s old end line count new
   kept = record {
     complete = completes;
     accepts = accept;
@@ -165,7 +166,7 @@ module _ {L K : Type 0} {Head : List ℕ → L → List Field → Type 0} {Says 
     incomplete = waits;
     full = λ x e o. omega (arith, T .count-is, X .few s, X .full s (x, (line, given (read s))) (read-bad x e) o);
     inside = (subst (In s) (told-line T) (Y .line s), subst (λ y. SlotsInside (length s) y new) (sym (T .count-is)) (subst (SlotsInside (length s) (length (given (read s)))) (sym (T .slots)) (slots-in (length s) (given (read s)) old (Y .fields s))));
-    fields = subst AreFields (sym in-slots) (are-fields s (given (read s)) (Y .are s));
+    fields = subst (AreFields r) (sym in-slots) (are-fields s r (given (read s)) (Y .are s));
     within = (subst (λ y. y ≤ length old / 4) (sym (T .count-is)) (X .few s), ap length (T .slots) ∙ filled-length (given (read s)) old (X .few s));
     untouched = ap (λ y. drop (y * 4) new) (T .count-is) ∙ ap (drop (length (given (read s)) * 4)) (T .slots) ∙ kept-behind (given (read s)) old ∙ sym (ap (λ y. drop (y * 4) old) (T .count-is));
   }

@@ -6,7 +6,7 @@ use mathlib.Core.List.{List, [], _∷_}
 use lib.ListN.{length, take, drop, getD}
 use Rattle.rules.specs.Rules.{Rules}
 use Rattle.grammar.specs.Rows.{Many}
-use Rattle.grammar.specs.Fields.{field-name, field-value, Field}
+use Rattle.grammar.specs.Fields.{field-name, Field}
 use Rattle.grammar.specs.Message as grammar
 use Rattle.startline.specs.declared.KnownPiece.{KnownPiece}
 use Rattle.startline.specs.declared.KnownPiece.the-variants as pieces
@@ -51,9 +51,9 @@ pub record StatusInside (z : List ℕ) (k : StatusLine) : Type 0 where
   pub reason : Inside (Many grammar.ascii-text) z (k .reason)
 
 -- names are names and values are values
-abbrev pub AreFields : List Field → Type 0
-AreFields [] = Unit {0}
-AreFields (f ∷ fs) = field-name (f .name) × field-value (f .value) × AreFields fs
+abbrev pub AreFields : Rules → List Field → Type 0
+AreFields r [] = Unit {0}
+AreFields r (f ∷ fs) = field-name (f .name) × grammar.value-lines r (f .value) × AreFields r fs
 
 -- the fields in the first count slots, four numbers each: where the name is, its length, where the value is, its length
 abbrev pub fieldsIn : List ℕ → ℕ → List ℕ → List Field

@@ -5,10 +5,16 @@ pub mod Head
 pub mod Places
 pub mod Rows
 pub mod Value
+pub mod Names
+pub mod Around
+pub mod SoFar
+pub mod Folded
 pub mod FieldLine
 pub mod Fields
 pub mod Starts
+pub mod There
 pub mod Steps
+pub mod Delimiters
 pub mod Known
 pub mod Inside
 pub mod Full

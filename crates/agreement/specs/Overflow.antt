@@ -2,63 +2,64 @@
 -- Assumes nothing.
 use Prim.Native.Nat.{ℕ, zero, suc, _+_, _≤_, _<_}
 use native.Mathlib.Omega.{arith}
+use native.Mathlib.Decide.{decLt}
 use mathlib.Core.Path.{_≡_, refl, sym, ap, subst, _∙_}
 use mathlib.Core.List.{List, [], _∷_, _++_, append-assoc, append-nil}
-use mathlib.Core.Bool.{Bool, true, false, cond, _&&_}
-use lib.Dec.{eqb, ltb}
-use lib.ListN.{length, take, drop, length-append, length-drop, take-append-drop}
-use lib.Seq.{length-take-le, take-at, take-take, take-append-le, drop-append-le}
+use mathlib.Core.Bool.{Bool, true, false, cond}
+use lib.Dec.{ltb}
+use lib.ListN.{length, getD, take, drop, length-append, length-drop, take-append-drop, List·getD-append}
+use lib.Seq.{getD-take, getD-at, length-take-le, take-at, drop-at, take-take, take-append-le, drop-append-le}
 use borrow.Author.Tests.{ltb-true, ltb-false}
-use Rattle.reader.specs.Machine.{run, runAt}
-use Rattle.reader.specs.Judged.{pass, fail, judged}
-use Rattle.reader.specs.Seq.{first, seq}
+use Rattle.reader.specs.Machine.{run}
+use Rattle.reader.specs.Judged.{pass, fail}
 use Rattle.reader.specs.Loop.{again}
+use Rattle.reader.specs.Bytes.{drop-in}
 use Rattle.reader.specs.Branch.{fresh}
 use Rattle.reader.specs.Answer.{Answer, got, short, bad, answer, answered, answered-bad, retold, rounds}
 use Rattle.reader.specs.Chain.{nothing}
 use Rattle.reader.specs.Refusals.{refused-is}
-use Rattle.reader.specs.Decided.{Taken, Takes, same-start, gave-late, takes-judged, takes-seq, takes-branch}
-use Rattle.reader.specs.Tests.{split, never}
-use Rattle.octets.specs.Class.{isToken}
+use Rattle.reader.specs.Decided.{gave-late}
+use Rattle.reader.specs.Tests.{clash, never}
+use Rattle.octets.specs.Grammar.{blank}
+use Rattle.octets.specs.Class.{isBlank}
+use Rattle.octets.specs.Ties.{blank-is-blank, token-is-tchar}
+use Rattle.octets.specs.Outside.{token-no-blank}
 use Rattle.rules.specs.Rules.{Rules}
-use Rattle.grammar.specs.Message.{line-end}
-use Rattle.parts.specs.declared.Error.{Error}
-use Rattle.parts.specs.declared.Error.the-variants.{HeaderName, HeaderValue, NewLine, TooManyHeaders}
+use Rattle.grammar.specs.Rows.{some}
+use Rattle.grammar.specs.Fields.{Field}
+use Rattle.grammar.specs.Message.{line-end, field-line}
+use Rattle.grammar.specs.Message as grammar
+use Rattle.parts.specs.declared.Error.the-variants.{TooManyHeaders}
 use Rattle.parts.specs.declared.Fault.{Fault}
 use Rattle.parts.specs.Answers.{fault}
-use Rattle.parts.specs.LineEnd.{begin, cr, lineEndStep}
-use Rattle.words.specs.Word.{none, wordStep}
-use Rattle.values.specs.Value.{blanks, valueStep}
 use Rattle.fields.specs.declared.Header.{Header}
-use Rattle.fields.specs.Line.{Kind, header, end, named, fieldStep, ends, lineStep, line}
+use Rattle.fields.specs.Line.{Kind, header, end, lineStep, line}
 use Rattle.blocks.specs.Block.{taken, block, block-line, given}
 use Rattle.heads.specs.Head.{Heads, over}
 use Rattle.agreement.specs.Line.{exact-line}
 use Rattle.agreement.specs.Places.{at-drop}
-use Rattle.agreement.specs.FieldLine.{LineIs, ended, field, line-derived, end-read}
-use Rattle.agreement.specs.Fields.{line-at, one-more, one-over, the-end, line-first, line-within, few-fields}
+use Rattle.agreement.specs.Folded.{NoBlank, behind-same}
+use Rattle.agreement.specs.FieldLine.{NoMore, LineIs, ended, field, line-derived, end-read}
+use Rattle.agreement.specs.There.{Over, line-is-over, line-there, line-open}
+use Rattle.agreement.specs.Fields.{block-begins, line-at, one-more, one-over, the-end, line-first, line-within, few-fields}
 use Rattle.agreement.specs.Full.{Located, line-refuses}
 use Rattle.agreement.specs.Promises.{OneTooMany}
 
--- a line takes its last byte
-pub end-takes : (r : Rules) (x : Error) → Takes (lineEndStep r x)
-end-takes r x begin p b = split Taken (eqb b 13) (λ _. tt) (λ _. split Taken (r .lf-alone && eqb b 10) (λ _. tt) (λ _. tt))
-end-takes r x cr p b = split Taken (eqb b 10) (λ _. tt) (λ _. tt)
-
-line-takes : (r : Rules) → Takes (lineStep r)
-line-takes r =
-    takes-branch (ends r) (judged (λ _. pass end) (λ e. e) (lineEndStep r NewLine)) begin (fieldStep r) (first none)
-    (takes-judged (λ _. end) (λ e. e) (lineEndStep r NewLine) (end-takes r NewLine))
-    (takes-seq (wordStep isToken 58 HeaderName) (λ n. first blanks) (λ n. seq valueStep (λ v. begin) (λ v. judged (λ _. pass (named n v)) (λ e. e) (lineEndStep r HeaderValue))) (λ n.
-    takes-seq valueStep (λ v. begin) (λ v. judged (λ _. pass (named n v)) (λ e. e) (lineEndStep r HeaderValue)) (λ v.
-    takes-judged (λ _. named n v) (λ e. e) (lineEndStep r HeaderValue) (end-takes r HeaderValue))))
-
 module _ (z : List ℕ) (r : Rules) (n : ℕ) where
-  -- a line is read where its bytes are, whatever follows
-  line-there : (j : ℕ) (u : List ℕ) (p : ℕ) {k : Kind} {q : ℕ} → j ≤ length z → line r z p ≡ got k q → q ≤ j → line r (take j z ++ u) p ≡ got k q
-  line-there j u p {k} {q} i e l =
-      let same : take j z ++ drop j z ≡ z = take-append-drop j z in
-      ap (answer nothing) (same-start (lineStep r) (line-takes r) (take j z) (drop j z) u fresh p (ap (λ y. runAt (lineStep r) fresh y p) same ∙ answered nothing _ e) (omega (arith, length-take-le j z i, l)))
+  -- where it is over in z it is in the first j bytes of z, if one of them is behind it, whatever follows
+  over-take : (j : ℕ) (u : List ℕ) (q : ℕ) → j ≤ length z → q < j → Over r z q → Over r (take j z ++ u) q
+  over-take j u q i l o t =
+      let N = o t in
+      let size : length (take j z) ≡ j = length-take-le j z i in
+      let from : drop q (take j z) ++ drop j z ≡ N .b ∷ N .ys = sym (drop-append-le q (take j z) (drop j z) (omega (arith, size, l))) ∙ ap (drop q) (take-append-drop j z) ∙ N .whole in
+      let B = behind-same (N .b) (N .ys) (drop q (take j z)) (drop j z) u from (omega (arith, length-drop q (take j z), size, l)) in
+      record { b = N .b; ys = B .0; whole = drop-append-le q (take j z) u (omega (arith, size, l)) ∙ B .1; solid = N .solid }
+
+  -- a header's line is read in the first j bytes of z, whatever follows, where it is over
+  header-there : (j : ℕ) (u : List ℕ) (p : ℕ) {h : Header} {q : ℕ} → j ≤ length z → line r z p ≡ got (header h) q → q ≤ j → Over r (take j z ++ u) q → line r (take j z ++ u) p ≡ got (header h) q
+  header-there j u p {h} {q} i e l o =
+      let size : length (take j z) ≡ j = length-take-le j z i in
+      line-there z r n p e (take j z ++ u) (take-append-le q (take j z) u (omega (arith, size, l)) ∙ take-take q j z l) (omega (arith, length-append (take j z) u, size, l)) o
 
   -- so is an empty one
   empty-there : (j : ℕ) (w : List ℕ) → j ≤ length z → line-end r w → line r (take j z ++ w) j ≡ got end (j + length w)
@@ -72,14 +73,37 @@ module _ (z : List ℕ) (r : Rules) (n : ℕ) where
       let w = gave-late (lineStep r) (drop p (take j z)) (drop j z) fresh p (ap (run (lineStep r) fresh p) parts ∙ answered nothing _ e) (omega (arith, length-drop p (take j z), size, h, l)) in
       ap (answer nothing) (w .1)
 
+  -- no line's end begins with a blank
+  end-no-blank : {e : List ℕ} → line-end r e → NoBlank e
+  end-no-blank {e} d = subst NoBlank (append-nil e) (block-begins (grammar.header-block.end d) [])
+
+  -- the byte that shows that a line is over, in the grammar's words and in the reader's
+  line-over : {u : List ℕ} → NoBlank u → (b : ℕ) × (v : List ℕ) × (u ≡ b ∷ v) × (blank b → ⊥)
+  line-over N = (N .b, N .ys, N .whole, λ h. clash (blank-is-blank (N .b) .1 h) (N .solid))
+
+  no-blank : {u : List ℕ} → (b : ℕ) × (v : List ℕ) × (u ≡ b ∷ v) × (blank b → ⊥) → NoBlank u
+  no-blank w = record { b = w .0; ys = w .1; whole = w .2; solid = by (isBlank (w .0)) refl }
+    where
+      by : (t : Bool) → isBlank (w .0) ≡ t → t ≡ false
+      by true h = absurd (w .3 (blank-is-blank (w .0) .0 h))
+      by false h = refl
+
+  -- no field line begins with a blank
+  first-solid : (c : ℕ) {l : List ℕ} {g : Field} (rest : List ℕ) → drop c z ≡ l ++ rest → field-line r l g → c < length z → isBlank (getD z c 0) ≡ false
+  first-solid c rest e (grammar.field-line.line (some {b = b} x n) s o v t) i =
+      let same : getD z c 0 ∷ drop (c + 1) z ≡ b ∷ _ = sym (drop-in z c i) ∙ e in
+      let first : getD z c 0 ≡ b = cc in
+      ap isBlank first ∙ token-no-blank b (token-is-tchar b .1 x)
+
   -- the header whose line ends at q has no slot
   record Overflow (hs : List Header) (p : ℕ) (x : Fault) (all : List Header) : Type 0 where
     q : ℕ
     h : Header
     reads : line r z (x .position) ≡ got (header h) q
     from : p ≤ x .position
-    waits : (j : ℕ) → x .position ≤ j → j < q → block r n hs (take j z) p ≡ short all
-    decides : (u : List ℕ) → block r n hs (take q z ++ u) p ≡ bad (x, all)
+    waits : (j : ℕ) → x .position ≤ j → (j ≡ x .position → r .multiline-headers ≡ false) → j < q → block r n hs (take j z) p ≡ short all
+    undecided : r .multiline-headers ≡ true → block r n hs (take q z) p ≡ short all
+    decides : (u : List ℕ) → NoMore r u → block r n hs (take q z ++ u) p ≡ bad (x, all)
     begins : (e : List ℕ) → line-end r e → block r n hs (take (x .position) z ++ e) p ≡ got all (x .position + length e)
 
   over-here : (hs : List Header) (p q : ℕ) (h : Header) → line r z p ≡ got (header h) q → n ≤ length hs → Overflow hs p (fault TooManyHeaders (h .name .offset)) hs
@@ -91,8 +115,9 @@ module _ (z : List ℕ) (r : Rules) (n : ℕ) where
         h = h;
         reads = ap (line r z) at-p ∙ e;
         from = omega (arith, at-p);
-        waits = λ j i k. block-line r n hs (take j z) p ∙ rw (line-waits j p (omega (arith, k, inside .1)) (omega (arith, at-p, i)) e k);
-        decides = λ u. one-over (take q z ++ u) r n hs h p q (line-there q u p (inside .1) e (omega arith)) l;
+        waits = λ j i _ k. block-line r n hs (take j z) p ∙ rw (line-waits j p (omega (arith, k, inside .1)) (omega (arith, at-p, i)) e k);
+        undecided = λ t. block-line r n hs (take q z) p ∙ rw (line-open z r n p e t);
+        decides = λ u o. one-over (take q z ++ u) r n hs h p q (header-there q u p (inside .1) e (omega arith) (λ t. subst NoBlank (sym (drop-at (take q z) u q (length-take-le q z (inside .1)))) (o t))) l;
         begins = λ w d. ap (λ y. block r n hs (take y z ++ w) p) at-p ∙ the-end (take p z ++ w) r n hs p (p + length w) (empty-there p w (omega (arith, inside)) d) ∙ ap (λ y. got hs (y + length w)) (sym at-p);
       }
 
@@ -100,16 +125,28 @@ module _ (z : List ℕ) (r : Rules) (n : ℕ) where
   over-later hs p q h x all e l O =
       let here = line-within z r n p q (header h) e in
       let inside = line-within z r n (x .position) (O .q) (header (O .h)) (O .reads) in
+      let is-over = line-is-over z r n p e in
+      let all-of : (j : ℕ) → take j z ++ [] ≡ take j z = λ j. append-nil (take j z) in
       record {
         q = O .q;
         h = O .h;
         reads = O .reads;
         from = omega (arith, here .0, O .from);
-        waits = λ j i k.
-            one-more (take j z) r n hs h p q (ap (λ y. line r y p) (sym (append-nil (take j z))) ∙ line-there j [] p (omega (arith, k, inside .1)) e (omega (arith, O .from, i))) l ∙ O .waits j i k;
-        decides = λ u. one-more (take (O .q) z ++ u) r n hs h p q (line-there (O .q) u p (inside .1) e (omega (arith, O .from, inside .0))) l ∙ O .decides u;
-        begins = λ w d. one-more (take (x .position) z ++ w) r n hs h p q (line-there (x .position) w p (omega (arith, inside)) e (O .from)) l ∙ O .begins w d;
+        waits = λ j i m k.
+            one-more (take j z) r n hs h p q (subst (λ y. line r y p ≡ got (header h) q) (all-of j) (header-there j [] p (omega (arith, k, inside .1)) e (omega (arith, O .from, i)) (behind j i m (omega (arith, k, inside .1)) is-over (decLt q j)))) l ∙ O .waits j i m k;
+        undecided = λ t.
+            one-more (take (O .q) z) r n hs h p q (subst (λ y. line r y p ≡ got (header h) q) (all-of (O .q)) (header-there (O .q) [] p (inside .1) e (omega (arith, O .from, inside .0)) (over-take (O .q) [] q (inside .1) (omega (arith, O .from, inside .0)) is-over))) l ∙ O .undecided t;
+        decides = λ u o. one-more (take (O .q) z ++ u) r n hs h p q (header-there (O .q) u p (inside .1) e (omega (arith, O .from, inside .0)) (over-take (O .q) u q (inside .1) (omega (arith, O .from, inside .0)) is-over)) l ∙ O .decides u o;
+        begins = λ w d. one-more (take (x .position) z ++ w) r n hs h p q (header-there (x .position) w p (omega (arith, inside)) e (O .from) (empty w d (omega (arith, inside)) is-over (decLt q (x .position)))) l ∙ O .begins w d;
       }
+    where
+      behind : (j : ℕ) → x .position ≤ j → (j ≡ x .position → r .multiline-headers ≡ false) → j ≤ length z → Over r z q → Dec (q < j) → Over r (take j z ++ []) q
+      behind j i m k o (yes c) = over-take j [] q k c o
+      behind j i m k o (no c) = λ t. absurd (clash t (m (omega (arith, c, i, O .from))))
+
+      empty : (w : List ℕ) → line-end r w → x .position ≤ length z → Over r z q → Dec (q < x .position) → Over r (take (x .position) z ++ w) q
+      empty w d i o (yes c) = over-take (x .position) w q i c o
+      empty w d i o (no c) = λ t. subst NoBlank (sym (drop-at (take (x .position) z) w q (omega (arith, length-take-le (x .position) z i, O .from, c)))) (end-no-blank d)
 
   module _ (x : Fault) (all : List Header) (o : x .error ≡ TooManyHeaders) where
     over-line : (hs : List Header) (p : ℕ) → ((hs′ : List Header) (q : ℕ) → p + 1 ≤ q → q ≤ length z → block r n hs′ z q ≡ bad (x, all) → Overflow hs′ q x all) → (a : Answer (Unit {0}) Kind Fault) → line r z p ≡ a → rounds (retold (λ _. hs) (taken n hs) (λ e. (e, hs)) a) (λ hs′ q. block r n hs′ z q) ≡ bad (x, all) → Overflow hs p x all
@@ -133,21 +170,21 @@ module _ (z : List ℕ) (r : Rules) (n : ℕ) where
     over-by (suc m) hs p l b = over-line hs p (λ hs′ q i j. over-by m hs′ q (omega (arith, i, l))) (line r z p) refl (sym (block-line r n hs z p) ∙ b)
 
     -- read is the block behind a start line that told k, wherever the bytes before the error are there
-    module _ {K : Type 0} (read : List ℕ → Heads K) (k : K) (q₀ : ℕ) (b : block r n [] z q₀ ≡ bad (x, all)) (full : n ≤ length all) (lift : q₀ ≤ x .position → x .position ≤ length z → (y : List ℕ) → take (x .position) y ≡ take (x .position) z → read y ≡ over k (block r n [] y q₀)) where
+    module _ {K : Type 0} (read : List ℕ → Heads K) (k : K) (q₀ : ℕ) (b : block r n [] z q₀ ≡ bad (x, all)) (full : n ≤ length all) (lift : q₀ ≤ x .position → x .position ≤ length z → (y : List ℕ) → take (x .position) y ≡ take (x .position) z → (x .position < length y → isBlank (getD y (x .position) 0) ≡ false) → read y ≡ over k (block r n [] y q₀)) where
       pub one-too-many : OneTooMany r n read z (x .position)
       one-too-many =
           let O = over-by (length z) [] q₀ (omega arith) b in
           let c : ℕ = x .position in
           let P = exact-line r .sound c (drop c z) (header (O .h)) (O .q) (answered nothing _ (O .reads)) in
           let inside = line-within z r n c (O .q) (header (O .h)) (O .reads) in
-          by O (line-derived (at-drop z c (P .w) (P .rest) (P .whole) (omega (arith, inside))) (P .holds)) (P .rest) (P .whole) (P .place)
+          by O (P .rest) (line-derived (at-drop z c (P .w) (P .rest) (P .whole) (omega (arith, inside))) (P .holds)) (P .whole) (P .place)
         where
           few : length all ≤ n
           few = subst (λ y. length (given y) ≤ n) b (few-fields z r n [] q₀ (omega arith))
 
-          by : (O : Overflow [] q₀ x all) {w : List ℕ} → LineIs z r w (header (O .h)) → (rest : List ℕ) → drop (x .position) z ≡ w ++ rest → O .q ≡ x .position + length w → OneTooMany r n read z (x .position)
-          by O (ended i d) rest whole place = never cc
-          by O {w} (field g l e i s f d) rest whole place =
+          by : (O : Overflow [] q₀ x all) {w : List ℕ} (rest : List ℕ) → LineIs z r w (header (O .h)) rest → drop (x .position) z ≡ w ++ rest → O .q ≡ x .position + length w → OneTooMany r n read z (x .position)
+          by O rest (ended i d) whole place = never cc
+          by O {w} rest (field g l e i s f d o′) whole place =
               let c : ℕ = x .position in
               let inside = line-within z r n c (O .q) (header (O .h)) (O .reads) in
               let parts : z ≡ take c z ++ ((l ++ e) ++ rest) = sym (take-append-drop c z) ∙ ap (λ y. take c z ++ y) (whole ∙ ap (λ y. y ++ rest) s) in
@@ -157,7 +194,8 @@ module _ (z : List ℕ) (r : Rules) (n : ℕ) where
               let up-to : take (O .q) z ≡ take c z ++ (l ++ e) = ap (take (O .q)) all-of ∙ take-at (take c z ++ (l ++ e)) rest (O .q) (omega (arith, length-append (take c z) (l ++ e), size, long)) in
               let located : x ≡ fault TooManyHeaders c = ap (λ y. fault y c) o in
               let as-block = lift (O .from) (omega (arith, inside)) in
-              let told : read z ≡ over k (bad (x, all)) = as-block z refl ∙ ap (over k) b in
+              let solid : isBlank (getD z c 0) ≡ false = first-solid c (e ++ rest) (whole ∙ ap (λ y. y ++ rest) s ∙ append-assoc l e rest) f (omega (arith, inside)) in
+              let told : read z ≡ over k (bad (x, all)) = as-block z refl (λ _. solid) ∙ ap (over k) b in
               record {
                 line = l;
                 end = e;
@@ -166,15 +204,17 @@ module _ (z : List ℕ) (r : Rules) (n : ℕ) where
                 whole = parts;
                 is-line = f;
                 is-end = d;
+                is-over = λ t. line-over (o′ t);
                 known = k;
                 headers = all;
                 told = told ∙ ap (λ y. bad (y, (k, all))) located;
                 full = omega (arith, few, full);
-                waits = λ j i. as-block (take (c + j) z) (take-take c (c + j) z (omega arith)) ∙ ap (over k) (O .waits (c + j) (omega arith) (omega (arith, long, i)));
-                decides = λ u.
+                waits = λ j m i. as-block (take (c + j) z) (take-take c (c + j) z (omega arith)) (λ y. ap isBlank (getD-take (c + j) z c 0 (omega (arith, y, length-take-le (c + j) z (omega (arith, long, i, inside .1))))) ∙ solid) ∙ ap (over k) (O .waits (c + j) (omega arith) (λ y. m (omega (arith, y))) (omega (arith, long, i)));
+                undecided = λ t. ap read (sym up-to) ∙ as-block (take (O .q) z) (take-take c (O .q) z (omega (arith, inside .0))) (λ _. ap isBlank (getD-take (O .q) z c 0 (omega (arith, inside .0))) ∙ solid) ∙ ap (over k) (O .undecided t);
+                decides = λ u o″.
                     ap read (sym (append-assoc (take c z) (l ++ e) u) ∙ ap (λ y. y ++ u) (sym up-to))
-                    ∙ as-block (take (O .q) z ++ u) (take-append-le c (take (O .q) z) u (omega (arith, length-take-le (O .q) z (inside .1), inside .0)) ∙ take-take c (O .q) z (omega (arith, inside .0)))
-                    ∙ ap (over k) (O .decides u) ∙ sym told;
+                    ∙ as-block (take (O .q) z ++ u) (take-append-le c (take (O .q) z) u (omega (arith, length-take-le (O .q) z (inside .1), inside .0)) ∙ take-take c (O .q) z (omega (arith, inside .0))) (λ _. ap isBlank (List·getD-append (take (O .q) z) u 0 c (omega (arith, length-take-le (O .q) z (inside .1), inside .0)) ∙ getD-take (O .q) z c 0 (omega (arith, inside .0))) ∙ solid)
+                    ∙ ap (over k) (O .decides u (λ t. no-blank (o″ t))) ∙ sym told;
                 begins = λ w t.
-                    as-block (take c z ++ w) (take-append-le c (take c z) w (omega (arith, size)) ∙ take-take c c z (omega arith)) ∙ ap (over k) (O .begins w t);
+                    as-block (take c z ++ w) (take-append-le c (take c z) w (omega (arith, size)) ∙ take-take c c z (omega arith)) (λ _. let N = end-no-blank t in ap isBlank (ap (λ y. getD (take c z ++ y) c 0) (N .whole) ∙ getD-at (take c z) (N .b) (N .ys) 0 c size) ∙ N .solid) ∙ ap (over k) (O .begins w t);
               }

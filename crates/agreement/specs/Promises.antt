@@ -2,9 +2,11 @@
 -- Assumes nothing.
 use Prim.Native.Nat.{ℕ, _+_, _*_, _/_, _≤_, _<_}
 use mathlib.Core.Path.{_≡_}
-use mathlib.Core.List.{List, _++_}
+use mathlib.Core.List.{List, _∷_, _++_}
+use mathlib.Core.Bool.{true, false}
 use lib.ListN.{length, take, drop}
 use Rattle.reader.specs.Answer.{Answer, got, short, bad}
+use Rattle.octets.specs.Grammar.{blank}
 use Rattle.rules.specs.Rules.{Rules, default}
 use Rattle.grammar.specs.Fields.{Field}
 use Rattle.grammar.specs.Message.{line-end, field-line, header-block}
@@ -31,9 +33,9 @@ pub record HeadAt {L K : Type 0} (Head : List ℕ → L → List Field → Type 
   pub head : Head bytes said fields
   pub says : Says s line said
 
--- Head is what the grammar calls a head; Says is how the call tells a start line, and In what its places are held to; old and new are
--- the slots before and after, four numbers each
-pub record HeadPromise {L K : Type 0} (Head : List ℕ → L → List Field → Type 0) (Says : List ℕ → K → L → Type 0) (In : List ℕ → K → Type 0) (s old : List ℕ) (end : Passed) (line : K) (count : ℕ) (new : List ℕ) : Type 0 where
+-- Head is what the grammar with the rules r calls a head; Says is how the call tells a start line, and In what its places are held to; old
+-- and new are the slots before and after, four numbers each
+pub record HeadPromise {L K : Type 0} (r : Rules) (Head : List ℕ → L → List Field → Type 0) (Says : List ℕ → K → L → Type 0) (In : List ℕ → K → Type 0) (s old : List ℕ) (end : Passed) (line : K) (count : ℕ) (new : List ℕ) : Type 0 where
   -- nothing else is accepted: complete at q means that a head ends there, and that the places given hold its fields
   pub complete : (q : ℕ) → end ≡ At q → HeadAt Head Says s q line (fieldsIn s count new)
   -- what is allowed is accepted: a head whose fields fit the slots, whatever follows it
@@ -51,7 +53,7 @@ pub record HeadPromise {L K : Type 0} (Head : List ℕ → L → List Field → 
   -- whatever the answer is, every place that is told lies in the input, and what is told of a start line is such
   pub inside : In s line × SlotsInside (length s) count new
   -- and the fields in the slots have names that are names and values that are values
-  pub fields : AreFields (fieldsIn s count new)
+  pub fields : AreFields r (fieldsIn s count new)
   -- the count is within the slots, of which there are as many as before, and those behind it are as they were
   pub within : (count ≤ length old / 4) × (length new ≡ length old)
   pub untouched : drop (count * 4) new ≡ drop (count * 4) old
@@ -60,23 +62,30 @@ pub record HeadPromise {L K : Type 0} (Head : List ℕ → L → List Field → 
 abbrev pub Waits : {U A F : Type 0} → Answer U A F → Type 0
 Waits {U} a = (u : U) × (a ≡ short u)
 
--- The header at p is one too many for n slots. The bytes before it are incomplete and fill them, and so are they with any start of its line; with
--- all of that line they are the error, and what is told is what is told of s, whatever bytes u follow. And a header's line begins at p, and
--- nowhere within: with an empty line in place of it the bytes before it are all of a head, with these headers.
+-- the bytes u behind a line's end show that the line is over: where values may go on over several lines, one is there and is no blank
+abbrev pub LineOver : Rules → List ℕ → Type 0
+LineOver r u = r .multiline-headers ≡ true → (b : ℕ) × (v : List ℕ) × (u ≡ b ∷ v) × (blank b → ⊥)
+
+-- The header at p is one too many for n slots. The bytes before it are incomplete and, with one more where values may go on over several
+-- lines, fill them; so are they with any start of its line; with all of that line, and what shows that it is over, they are the error, and
+-- what is told is what is told of s, whatever bytes u follow. And a header's line begins at p, and nowhere within: with an empty line in
+-- place of it the bytes before it are all of a head, with these headers.
 pub record OneTooMany {K : Type 0} (r : Rules) (n : ℕ) (read : List ℕ → Heads K) (s : List ℕ) (p : ℕ) : Type 0 where
   pub line : List ℕ
   pub end : List ℕ
   pub rest : List ℕ
   pub field : Field
   pub whole : s ≡ take p s ++ ((line ++ end) ++ rest)
-  pub is-line : field-line line field
+  pub is-line : field-line r line field
   pub is-end : line-end r end
+  pub is-over : LineOver r rest
   pub known : K
   pub headers : List Header
   pub told : read s ≡ bad (fault TooManyHeaders p, (known, headers))
   pub full : length headers ≡ n
-  pub waits : (k : ℕ) → k < length (line ++ end) → read (take (p + k) s) ≡ short (known, headers)
-  pub decides : (u : List ℕ) → read (take p s ++ ((line ++ end) ++ u)) ≡ read s
+  pub waits : (k : ℕ) → (k ≡ 0 → r .multiline-headers ≡ false) → k < length (line ++ end) → read (take (p + k) s) ≡ short (known, headers)
+  pub undecided : r .multiline-headers ≡ true → read (take p s ++ (line ++ end)) ≡ short (known, headers)
+  pub decides : (u : List ℕ) → LineOver r u → read (take p s ++ ((line ++ end) ++ u)) ≡ read s
   pub begins : (e : List ℕ) → line-end r e → read (take p s ++ e) ≡ got (known, headers) (p + length e)
 
 -- what is true of the position of an error

@@ -34,7 +34,9 @@ use Rattle.leaves.specs.EmptyLines.{EmptiesAt, exact-empties}
 use Rattle.leaves.specs.Word.{Worded, exact-word}
 use Rattle.leaves.specs.Target.{Targeted, exact-target}
 use Rattle.leaves.specs.Version.{DigitAt, exact-version}
-use Rattle.leaves.specs.Status.{Spaced, exact-space, Coded, exact-code}
+use Rattle.leaves.specs.Byte.{Byte, exact-byte}
+use Rattle.leaves.specs.Gap.{BehindGap, exact-behind-gap}
+use Rattle.leaves.specs.Status.{Coded, exact-code}
 use Rattle.leaves.specs.BehindCode.{Behind, exact-behind}
 use Rattle.leaves.specs.Reason.{Reasoned, exact-reason}
 
@@ -51,10 +53,10 @@ module _ (r : Rules) where
   EndOn k = Adds (λ _. k) (EndsAt r)
 
   abbrev pub VersionOn : RequestLine → Relation RequestLine
-  VersionOn k = Both (Adds (request.withVersion k) (DigitAt name)) EndOn
+  VersionOn k = Both (Adds (request.withVersion k) (BehindGap (request.moreSpaces r) (DigitAt name))) EndOn
 
   abbrev pub TargetOn : RequestLine → Relation RequestLine
-  TargetOn k = Both (Adds (request.withTarget k) (Targeted (targetByte (r .any-target)))) VersionOn
+  TargetOn k = Both (Adds (request.withTarget k) (BehindGap (request.moreSpaces r) (Targeted (targetByte (r .any-target))))) VersionOn
 
   abbrev pub MethodOn : RequestLine → Relation RequestLine
   MethodOn k = Both (Adds (request.withMethod k) (Worded isToken 32)) TargetOn
@@ -66,12 +68,12 @@ module _ (r : Rules) where
   exact-request-line =
       exact-seq (part request.unread (λ _. request.unread) (emptyLinesStep r)) (λ _. first words.none) (request.methodOn r) start
       (exact-part request.unread (λ _. request.unread) (emptyLinesStep r) start (exact-empties r)) (λ k.
-      exact-seq (part k (request.withMethod k) (wordStep isToken 32 Token)) (λ _. first targets.none) (request.targetOn r) words.none
+      exact-seq (part k (request.withMethod k) (wordStep isToken 32 Token)) (λ _. first (first tt)) (request.targetOn r) words.none
       (exact-part k (request.withMethod k) (wordStep isToken 32 Token) words.none (exact-word isToken 32 Token space-no-token)) (λ k.
-      exact-seq (part k (request.withTarget k) (targetStep (targetByte (r .any-target)))) (λ _. first name) (request.versionOn r) targets.none
-      (exact-part k (request.withTarget k) (targetStep (targetByte (r .any-target))) targets.none (exact-target (targetByte (r .any-target)) (space-no-target-byte (r .any-target)))) (λ k.
-      exact-seq (part k (request.withVersion k) versionStep) (λ _. begin) (request.endStep r) name
-      (exact-part k (request.withVersion k) versionStep name exact-version) (λ k.
+      exact-seq (part k (request.withTarget k) (request.gapTarget r)) (λ _. first (first tt)) (request.versionOn r) (first tt)
+      (exact-part k (request.withTarget k) (request.gapTarget r) (first tt) (exact-behind-gap (request.moreSpaces r) (targetStep (targetByte (r .any-target))) targets.none (exact-target (targetByte (r .any-target)) (space-no-target-byte (r .any-target))))) (λ k.
+      exact-seq (part k (request.withVersion k) (request.gapVersion r)) (λ _. begin) (request.endStep r) (first tt)
+      (exact-part k (request.withVersion k) (request.gapVersion r) (first tt) (exact-behind-gap (request.moreSpaces r) versionStep name exact-version)) (λ k.
       exact-part k (λ _. k) (lineEndStep r NewLine) begin (exact-line-end r NewLine)))))
 
 -- version, space, code, what is behind it, reason with the line end
@@ -80,16 +82,16 @@ module _ (r : Rules) where
   ReasonEnds = Both Reasoned (λ w. Passes {F = Fault} (λ _. pass w) (EndsAt r))
 
   abbrev pub ReasonOn : StatusLine → Relation StatusLine
-  ReasonOn k = Adds (response.withReason k) ReasonEnds
+  ReasonOn k = Adds (response.withReason k) (BehindGap (response.moreSpaces r) ReasonEnds)
 
   abbrev pub BehindOn : StatusLine → Relation StatusLine
   BehindOn k = Both (Adds (λ _. k) (Behind r)) ReasonOn
 
   abbrev pub CodeOn : StatusLine → Relation StatusLine
-  CodeOn k = Both (Adds (response.withCode k) Coded) BehindOn
+  CodeOn k = Both (Adds (response.withCode k) (BehindGap (response.moreSpaces r) Coded)) BehindOn
 
   abbrev pub SpaceOn : StatusLine → Relation StatusLine
-  SpaceOn k = Both (Adds (λ _. k) Spaced) CodeOn
+  SpaceOn k = Both (Adds (λ _. k) (Byte 32)) CodeOn
 
   abbrev pub StatusVersionOn : StatusLine → Relation StatusLine
   StatusVersionOn k = Both (Adds (response.withVersion k) (DigitAt name)) SpaceOn
@@ -108,10 +110,10 @@ module _ (r : Rules) where
       (exact-part response.unread (λ _. response.unread) (emptyLinesStep r) start (exact-empties r)) (λ k.
       exact-seq (part k (response.withVersion k) versionStep) (λ _. first tt) (response.spaceOn r) name
       (exact-part k (response.withVersion k) versionStep name exact-version) (λ k.
-      exact-seq (part k (λ _. k) (spaceStep Version)) (λ _. first codes.none) (response.codeOn r) tt
-      (exact-part k (λ _. k) (spaceStep Version) tt (exact-space Version)) (λ k.
-      exact-seq (part k (response.withCode k) codeStep) (λ _. first tt) (response.behindOn r) codes.none
-      (exact-part k (response.withCode k) codeStep codes.none exact-code) (λ k.
-      exact-seq (part k (λ _. k) (behindCodeStep r)) (λ _. first reasons.none) (response.reasonOn r) tt
+      exact-seq (part k (λ _. k) (spaceStep Version)) (λ _. first (first tt)) (response.codeOn r) tt
+      (exact-part k (λ _. k) (spaceStep Version) tt (exact-byte 32 Version)) (λ k.
+      exact-seq (part k (response.withCode k) (response.gapCode r)) (λ _. first tt) (response.behindOn r) (first tt)
+      (exact-part k (response.withCode k) (response.gapCode r) (first tt) (exact-behind-gap (response.moreSpaces r) codeStep codes.none exact-code)) (λ k.
+      exact-seq (part k (λ _. k) (behindCodeStep r)) (λ _. first tt) (response.reasonOn r) tt
       (exact-part k (λ _. k) (behindCodeStep r) tt (exact-behind r)) (λ k.
-      exact-part k (response.withReason k) (response.reasonEndStep r) (first reasons.none) exact-reason-end)))))
+      exact-part k (response.withReason k) (response.gapReason r) (first tt) (exact-behind-gap (response.moreSpaces r) (response.reasonEndStep r) (first reasons.none) exact-reason-end))))))

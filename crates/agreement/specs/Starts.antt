@@ -17,7 +17,7 @@ use Rattle.utf8.specs.Reader.{utf8}
 use Rattle.utf8.specs.Exact.{utf8-exact}
 use Rattle.rules.specs.declared.Settings.{Settings}
 use Rattle.rules.specs.Rules.{Rules, default}
-use Rattle.rules.specs.Settings.{rulesOf}
+use Rattle.rules.specs.Settings.{requestRules, responseRules}
 use Rattle.grammar.specs.Rows.{Many, none, more, Some, some}
 use Rattle.grammar.specs.Message.{Version, HTTP-version, one-zero, one-one, request-target, status-code, ascii-text, reason-phrase}
 use Rattle.grammar.specs.Message as grammar
@@ -39,8 +39,11 @@ pub record Fixed (r : Rules) : Type 0 where
 pub default-fixed : Fixed default
 default-fixed = record { known-versions = refl; any-code = refl; obs-reason = refl }
 
-pub settings-fixed : (settings : Settings) → Fixed (rulesOf settings)
-settings-fixed settings = record { known-versions = refl; any-code = refl; obs-reason = refl }
+pub request-fixed : (settings : Settings) → Fixed (requestRules settings)
+request-fixed settings = record { known-versions = refl; any-code = refl; obs-reason = refl }
+
+pub response-fixed : (settings : Settings) → Fixed (responseRules settings)
+response-fixed settings = record { known-versions = refl; any-code = refl; obs-reason = refl }
 
 -- visible characters are UTF-8
 visible-utf8 : {w : List ℕ} → Many VCHAR w → UTF8-octets w

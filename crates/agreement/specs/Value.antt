@@ -33,7 +33,7 @@ above-blank : (b : ℕ) → 0x21 ≤ b → isBlank b ≡ false
 unfolding isBlank among
 above-blank b h = rw (ne-eqb 0x20 b (λ e. omega (arith, e)), ne-eqb 0x09 b (λ e. omega (arith, e)))
 
-vchar-above : {b : ℕ} → field-vchar b → 0x21 ≤ b
+pub vchar-above : {b : ℕ} → field-vchar b → 0x21 ≤ b
 vchar-above (visible h) = h .low
 vchar-above (obsolete h) = omega (arith, h .low)
 

@@ -22,15 +22,17 @@ use Rattle.parts.specs.declared.Fault.{Fault}
 use Rattle.parts.specs.declared.Piece.{Piece}
 use Rattle.parts.specs.declared.Passed.{Passed}
 use Rattle.parts.specs.declared.Passed.the-variants as passes
-use Rattle.rules.specs.Rules.{Rules, default}
+use Rattle.rules.specs.Rules.{Rules}
+use Rattle.rules.specs.declared.LineSettings.{LineSettings}
+use Rattle.rules.specs.Settings.{lineRules}
 use Rattle.parts.specs.Answers.{fault}
 use Rattle.parts.specs.LineEnd.{LineEnd, cr}
-use Rattle.words.specs.Word.{some}
+use Rattle.names.specs.Name.{Colon, some}
 use Rattle.fields.specs.declared.Header.{Header}
 use Rattle.fields.specs.declared.Line.{Line}
 use Rattle.fields.specs.declared.Line.the-variants as lines
 use Rattle.blocks.specs.declared.Block.{Block}
-use Rattle.values.specs.Value.{Value}
+use Rattle.folds.specs.Folded.{LinesState}
 use Rattle.fields.specs.Line.{Kind, header, end, LineState, lineStep, line, lineOf}
 use Rattle.blocks.specs.Slots.{numbers, filled, filled-none, filled-more}
 
@@ -54,15 +56,15 @@ abbrev pub block : Rules → ℕ → List Header → List ℕ → ℕ → Blocks
 block r n hs xs at = answer (lapwise (λ hs _. hs)) (runAt (blockStep r n) (hs, fresh) xs at)
 
 -- no line leaves its first byte to the next
-module _ (n : ℕ) (hs hs′ : List Header) (p : ℕ) (start : Piece → Then Value Piece LineEnd) (k : Piece → Move (Then Value Piece LineEnd) Kind Fault) where
-  never : (t u w : Bool) → moved {S = LineState} (taken n hs) (λ e. (e, hs)) (cond (t || u) (lifted one (moved {S = LineEnd} {A = Unit {0}} (λ _. pass end) (λ e. e) (cond t (keep cr) (cond u (give (tt {0})) (refuse (fault NewLine p)))))) (lifted other (cross (cond w (keep (some p)) (refuse (fault HeaderName p))) start k))) ≡ before (again hs′) → ⊥
+module _ (n : ℕ) (hs hs′ : List Header) (p : ℕ) (begin : Piece → Colon) (c : Piece → Move Colon Piece Fault) (start : Piece → LinesState) (k : Piece → Move LinesState Kind Fault) where
+  never : (t u w : Bool) → moved {S = LineState} (taken n hs) (λ e. (e, hs)) (cond (t || u) (lifted one (moved {S = LineEnd} {A = Unit {0}} (λ _. pass end) (λ e. e) (cond t (keep cr) (cond u (give (tt {0})) (refuse (fault NewLine p)))))) (lifted other (cross (cross (cond w (keep (some p)) (refuse (fault HeaderName p))) begin c) start k))) ≡ before (again hs′) → ⊥
   never true u w e = let z : _≡_ {A = ℕ} 0 1 = cc in omega arith
   never false true w e = let z : _≡_ {A = ℕ} 0 1 = cc in omega arith
   never false false true e = let z : _≡_ {A = ℕ} 0 1 = cc in omega arith
   never false false false e = let z : _≡_ {A = ℕ} 0 1 = cc in omega arith
 
 pub block-fresh : (r : Rules) (n : ℕ) → Fresh (λ _. fresh) (lapStep r n)
-block-fresh r n hs p b hs′ e = never n hs hs′ p _ _ (eqb b 13) (r .lf-alone && eqb b 10) (isToken b) e
+block-fresh r n hs p b hs′ e = never n hs hs′ p _ _ _ _ (eqb b 13) (r .lf-alone && eqb b 10) (isToken b) e
 
 -- a line, and the block from behind it
 pub block-line : (r : Rules) (n : ℕ) (hs : List Header) (xs : List ℕ) (p : ℕ) → block r n hs xs p ≡ rounds (retold (λ _. hs) (taken n hs) (λ e. (e, hs)) (line r xs p)) (λ hs′ q. block r n hs′ xs q)
@@ -99,37 +101,37 @@ tells {a} hs {r} e c f =
     record { answer = rw g e; count = rw g c; slots = rw g f }
 
 -- what the loop keeps: the headers so far are in the slots, which have room for n, and the block from i on is the rest of the whole
-pub record Kept (n : ℕ) (xs old new : List ℕ) (at i count : ℕ) : Type 0 where
+pub record Kept (settings : LineSettings) (n : ℕ) (xs old new : List ℕ) (at i count : ℕ) : Type 0 where
   pub hs : List Header
   pub size : length hs ≡ count
   pub room : count ≤ n
-  pub same : block default n [] xs at ≡ block default n hs xs i
+  pub same : block (lineRules settings) n [] xs at ≡ block (lineRules settings) n hs xs i
   pub full : new ≡ filled hs old
   pub fits : n * 4 ≤ length old
   pub long : length new ≡ length old
 
-pub kept-none : {xs old : List ℕ} {at : ℕ} → Kept (length old / 4) xs old old at at 0
+pub kept-none : {settings : LineSettings} {xs old : List ℕ} {at : ℕ} → Kept settings (length old / 4) xs old old at at 0
 kept-none {old = old} = record { hs = []; size = refl; room = omega arith; same = refl; full = filled-none old; fits = omega arith; long = refl }
 
-module _ {n : ℕ} {xs old new : List ℕ} {at i count : ℕ} (k : Kept n xs old new at i count) {l : Line} (e : lineOf l ≡ line default xs i) where
+module _ {settings : LineSettings} {n : ℕ} {xs old new : List ℕ} {at i count : ℕ} (k : Kept settings n xs old new at i count) {l : Line} (e : lineOf l ≡ line (lineRules settings) xs i) where
   -- the block where its next line is c
-  goes : {c : Line} → l ≡ c → block default n [] xs at ≡ rounds (retold (λ _. k .hs) (taken n (k .hs)) (λ e. (e, k .hs)) (lineOf c)) (λ hs′ q. block default n hs′ xs q)
-  goes h = k .same ∙ block-line default n (k .hs) xs i ∙ rw (← e, h)
+  goes : {c : Line} → l ≡ c → block (lineRules settings) n [] xs at ≡ rounds (retold (λ _. k .hs) (taken n (k .hs)) (λ e. (e, k .hs)) (lineOf c)) (λ hs′ q. block (lineRules settings) n hs′ xs q)
+  goes h = k .same ∙ block-line (lineRules settings) n (k .hs) xs i ∙ rw (← e, h)
 
-  pub kept-end : {q : ℕ} → l ≡ lines.End q → {r : Block} → r .end ≡ passes.At q → r .count ≡ count → Told (block default n [] xs at) r old new
+  pub kept-end : {q : ℕ} → l ≡ lines.End q → {r : Block} → r .end ≡ passes.At q → r .count ≡ count → Told (block (lineRules settings) n [] xs at) r old new
   kept-end h x y = tells (k .hs) (rw (goes h, x)) (y ∙ sym (k .size)) (k .full)
 
-  pub kept-short : l ≡ lines.More → {r : Block} → r .end ≡ passes.More → r .count ≡ count → Told (block default n [] xs at) r old new
+  pub kept-short : l ≡ lines.More → {r : Block} → r .end ≡ passes.More → r .count ≡ count → Told (block (lineRules settings) n [] xs at) r old new
   kept-short h x y = tells (k .hs) (rw (goes h, x)) (y ∙ sym (k .size)) (k .full)
 
-  pub kept-bad : {z : Fault} → l ≡ lines.Bad z → {r : Block} → r .end ≡ passes.Bad z → r .count ≡ count → Told (block default n [] xs at) r old new
+  pub kept-bad : {z : Fault} → l ≡ lines.Bad z → {r : Block} → r .end ≡ passes.Bad z → r .count ≡ count → Told (block (lineRules settings) n [] xs at) r old new
   kept-bad h x y = tells (k .hs) (rw (goes h, x)) (y ∙ sym (k .size)) (k .full)
 
   module _ {g : Header} {q : ℕ} (h : l ≡ lines.Header g q) where
-    pub kept-full : n ≤ count → {r : Block} → r .end ≡ passes.Bad (fault TooManyHeaders (g .name .offset)) → r .count ≡ count → Told (block default n [] xs at) r old new
+    pub kept-full : n ≤ count → {r : Block} → r .end ≡ passes.Bad (fault TooManyHeaders (g .name .offset)) → r .count ≡ count → Told (block (lineRules settings) n [] xs at) r old new
     kept-full u x y = tells (k .hs) (rw (goes h, k .size, le-ltb count n u, x)) (y ∙ sym (k .size)) (k .full)
 
-    pub kept-more : count < n → {new′ : List ℕ} → new′ ≡ take (count * 4) new ++ numbers g ++ drop (count * 4 + 4) new → Kept n xs old new′ at q (count + 1)
+    pub kept-more : count < n → {new′ : List ℕ} → new′ ≡ take (count * 4) new ++ numbers g ++ drop (count * 4 + 4) new → Kept settings n xs old new′ at q (count + 1)
     kept-more u s = record {
       hs = k .hs ++ (g ∷ []);
       size = omega (arith, length-append (k .hs) (g ∷ []), k .size);

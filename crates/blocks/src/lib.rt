@@ -3,12 +3,13 @@ ghost use mathlib.Core.Path.{_≡_};
 ghost use mathlib.Core.List.{[], _∷_, _++_};
 ghost use Prim.Native.Nat.{_+_, _/_, _≤_};
 ghost use lib.ListN.{length, take, drop};
-ghost use Rattle.rules.specs.Rules.{default};
+ghost use Rattle.rules.specs.Settings.{lineRules};
 ghost use Rattle.blocks.specs.Block.{block as blockAt, Told};
 use fields::Line;
 use parts::Error;
 use parts::Fault;
 use parts::Passed;
+use rules::LineSettings;
 
 // What reading the block comes to, and how many headers are in the slots.
 pub struct Block {
@@ -28,14 +29,14 @@ fn put(slots: &mut [usize], at: usize, a: usize, b: usize, c: usize, d: usize)
 }
 
 // The lines from `at` to the empty one. A header takes four numbers of `slots`; the rest of them is left as it was.
-pub fn header_block(s: &[u8], at: usize, slots: &mut [usize]) -> Block
-    ensures { λ r. ⌜ Told (blockAt default (length (now (slots .entry)) / 4) [] (now (s .entry)) at) r (now (slots .entry)) (now (slots .exit)) ⌝ }
+pub fn header_block(s: &[u8], at: usize, slots: &mut [usize], settings: LineSettings) -> Block
+    ensures { λ r. ⌜ Told (blockAt (lineRules settings) (length (now (slots .entry)) / 4) [] (now (s .entry)) at) r (now (slots .entry)) (now (slots .exit)) ⌝ }
 {
     let n = slots.len() / 4;
     let mut i = at;
     let mut count: usize = 0;
     loop {
-        let line = fields::header_line(s, i);
+        let line = fields::header_line(s, i, settings);
         match line {
             Line::Header(header, next) => {
                 let name = header.name;

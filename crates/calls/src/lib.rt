@@ -6,7 +6,7 @@ ghost use mathlib.Core.List.{[]};
 ghost use Prim.Native.Nat.{_/_};
 ghost use lib.ListN.{length};
 ghost use Rattle.rules.specs.Rules.{default};
-ghost use Rattle.rules.specs.Settings.{rulesOf};
+ghost use Rattle.rules.specs.Settings.{requestRules, responseRules};
 ghost use Rattle.grammar.specs.Message.{request-head, response-head};
 ghost use Rattle.blocks.specs.Block.{block, Told as BlockTold};
 ghost use Rattle.heads.specs.Head.{Told};
@@ -23,24 +23,24 @@ use rules::Settings;
 
 // A header takes four numbers of `slots`: where its name is, the name's length, where its value is, the value's length.
 pub fn request(s: &[u8], slots: &mut [usize], settings: Settings) -> RequestHead
-    ensures { λ r. ⌜ Told (requestOf (rulesOf settings) (length (now (slots .entry)) / 4) (now (s .entry))) (r .end) (r .line) (r .count) (now (slots .entry)) (now (slots .exit)) ⌝ }
-    ensures { λ r. ⌜ HeadPromise (request-head (rulesOf settings)) RequestSays (RequestInside (rulesOf settings)) (now (s .entry)) (now (slots .entry)) (r .end) (r .line) (r .count) (now (slots .exit)) ⌝ }
-    ensures { λ r. ⌜ FaultPromise (rulesOf settings) (length (now (slots .entry)) / 4) (requestOf (rulesOf settings) (length (now (slots .entry)) / 4)) (now (s .entry)) (r .end) ⌝ }
+    ensures { λ r. ⌜ Told (requestOf (requestRules settings) (length (now (slots .entry)) / 4) (now (s .entry))) (r .end) (r .line) (r .count) (now (slots .entry)) (now (slots .exit)) ⌝ }
+    ensures { λ r. ⌜ HeadPromise (requestRules settings) (request-head (requestRules settings)) RequestSays (RequestInside (requestRules settings)) (now (s .entry)) (now (slots .entry)) (r .end) (r .line) (r .count) (now (slots .exit)) ⌝ }
+    ensures { λ r. ⌜ FaultPromise (requestRules settings) (length (now (slots .entry)) / 4) (requestOf (requestRules settings) (length (now (slots .entry)) / 4)) (now (s .entry)) (r .end) ⌝ }
 {
     heads::request(s, slots, settings)
 }
 
-pub fn response(s: &[u8], slots: &mut [usize]) -> ResponseHead
-    ensures { λ r. ⌜ Told (responseOf default (length (now (slots .entry)) / 4) (now (s .entry))) (r .end) (r .line) (r .count) (now (slots .entry)) (now (slots .exit)) ⌝ }
-    ensures { λ r. ⌜ HeadPromise (response-head default) StatusSays StatusInside (now (s .entry)) (now (slots .entry)) (r .end) (r .line) (r .count) (now (slots .exit)) ⌝ }
-    ensures { λ r. ⌜ FaultPromise default (length (now (slots .entry)) / 4) (responseOf default (length (now (slots .entry)) / 4)) (now (s .entry)) (r .end) ⌝ }
+pub fn response(s: &[u8], slots: &mut [usize], settings: Settings) -> ResponseHead
+    ensures { λ r. ⌜ Told (responseOf (responseRules settings) (length (now (slots .entry)) / 4) (now (s .entry))) (r .end) (r .line) (r .count) (now (slots .entry)) (now (slots .exit)) ⌝ }
+    ensures { λ r. ⌜ HeadPromise (responseRules settings) (response-head (responseRules settings)) StatusSays StatusInside (now (s .entry)) (now (slots .entry)) (r .end) (r .line) (r .count) (now (slots .exit)) ⌝ }
+    ensures { λ r. ⌜ FaultPromise (responseRules settings) (length (now (slots .entry)) / 4) (responseOf (responseRules settings) (length (now (slots .entry)) / 4)) (now (s .entry)) (r .end) ⌝ }
 {
-    heads::response(s, slots)
+    heads::response(s, slots, settings)
 }
 
 pub fn headers(s: &[u8], slots: &mut [usize]) -> Block
     ensures { λ r. ⌜ BlockTold (block default (length (now (slots .entry)) / 4) [] (now (s .entry)) 0) r (now (slots .entry)) (now (slots .exit)) ⌝ }
-    ensures { λ r. ⌜ HeadPromise block-alone says-nothing lies-nowhere (now (s .entry)) (now (slots .entry)) (r .end) tt (r .count) (now (slots .exit)) ⌝ }
+    ensures { λ r. ⌜ HeadPromise default block-alone says-nothing lies-nowhere (now (s .entry)) (now (slots .entry)) (r .end) tt (r .count) (now (slots .exit)) ⌝ }
     ensures { λ r. ⌜ FaultPromise default (length (now (slots .entry)) / 4) (headersOf (length (now (slots .entry)) / 4)) (now (s .entry)) (r .end) ⌝ }
 {
     heads::headers(s, slots)

@@ -16,11 +16,15 @@ pub enum InRequestLine {
     Method,
     // where a second space stands
     TargetStart,
+    // behind a space, where there may be several
+    SpacedTarget,
     Target,
     AsciiTarget,
     // at the space behind it
     Utf8Target,
     Version,
+    // where several spaces may stand before it
+    SpacedVersion,
     LineEnd,
 }
 
@@ -28,13 +32,23 @@ pub enum InStatusLine {
     Version,
     Space,
     Digit,
+    // where several spaces may stand before the code
+    SpacedDigit,
     BehindCode,
     Reason,
 }
 
 pub enum InHeader {
     Start,
+    // where blanks may stand before the first name
+    SpacedStart,
+    // where a value may go on
+    StartOrMore,
     Name,
+    // where blanks may stand before the colon
+    SpacedName,
+    // behind such a blank
+    Colon,
     Value,
     // where the slots are full
     NoMore,
@@ -72,22 +86,27 @@ fn in_request_line(page: &mut Page, at: usize, place: InRequestLine) -> usize {
         InRequestLine::Method => put(
             page,
             at,
-            b"more of the method, in letters, digits and !#$%&'*+-.^_`|~, or the one space behind it\n",
+            b"more of the method, in letters, digits and !#$%&'*+-.^_`|~, or a space behind it\n",
         ),
         InRequestLine::TargetStart => put(
             page,
             at,
             b"a target, such as /orders; a second space here makes it empty\n",
         ),
+        InRequestLine::SpacedTarget => put(
+            page,
+            at,
+            b"another space, or a target with no control byte in it\n",
+        ),
         InRequestLine::Target => put(
             page,
             at,
-            b"a target with no blank and no control byte in it, and one space behind it\n",
+            b"a target with no blank and no control byte in it, and a space behind it\n",
         ),
         InRequestLine::AsciiTarget => put(
             page,
             at,
-            b"a target in visible ASCII, as --ascii-targets asks, and one space behind it\n",
+            b"a target in visible ASCII, as --ascii-targets asks, and a space behind it\n",
         ),
         InRequestLine::Utf8Target => put(
             page,
@@ -98,6 +117,11 @@ fn in_request_line(page: &mut Page, at: usize, place: InRequestLine) -> usize {
             page,
             at,
             b"HTTP/1.0 or HTTP/1.1, right behind the one space that ends the target\n",
+        ),
+        InRequestLine::SpacedVersion => put(
+            page,
+            at,
+            b"HTTP/1.0 or HTTP/1.1, behind one space or more\n",
         ),
         InRequestLine::LineEnd => put(
             page,
@@ -114,20 +138,21 @@ fn in_status_line(page: &mut Page, at: usize, place: InStatusLine) -> usize {
             at,
             b"HTTP/1.0 or HTTP/1.1, at the start of the line\n",
         ),
-        InStatusLine::Space => put(
-            page,
-            at,
-            b"the one space between the version and the code\n",
-        ),
+        InStatusLine::Space => put(page, at, b"a space between the version and the code\n"),
         InStatusLine::Digit => put(
             page,
             at,
             b"a digit, since the code is three digits, right behind one space\n",
         ),
+        InStatusLine::SpacedDigit => put(
+            page,
+            at,
+            b"a digit, since the code is three digits, behind one space or more\n",
+        ),
         InStatusLine::BehindCode => put(
             page,
             at,
-            b"one space and the reason, or the line's end, right behind the three digits of the code\n",
+            b"a space and the reason, or the line's end, right behind the three digits of the code\n",
         ),
         InStatusLine::Reason => put(
             page,
@@ -144,11 +169,27 @@ fn in_header(page: &mut Page, at: usize, place: InHeader) -> usize {
             at,
             b"a header's name, or the empty line that ends the headers\n",
         ),
+        InHeader::SpacedStart => put(
+            page,
+            at,
+            b"a blank, the first header's name, or the empty line that ends the headers\n",
+        ),
+        InHeader::StartOrMore => put(
+            page,
+            at,
+            b"a header's name, a blank and more of the value above, or the empty line that ends the headers\n",
+        ),
         InHeader::Name => put(
             page,
             at,
             b"the colon, with no blank before it, or more of the name, in letters, digits and !#$%&'*+-.^_`|~\n",
         ),
+        InHeader::SpacedName => put(
+            page,
+            at,
+            b"the colon, a blank, or more of the name, in letters, digits and !#$%&'*+-.^_`|~\n",
+        ),
+        InHeader::Colon => put(page, at, b"the colon, or another blank before it\n"),
         InHeader::Value => put(
             page,
             at,

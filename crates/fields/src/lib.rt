@@ -1,22 +1,24 @@
-// One line of a header block: a header, or the empty line that ends it.
+// One line of a header block: a header, whose value may go on over several, or the empty line that ends it.
 ghost use mathlib.Core.Path.{_≡_};
 ghost use Rattle.reader.specs.Chain.{ended};
 ghost use Rattle.parts.specs.declared.Error.the-variants.{NewLine};
 ghost use Rattle.rules.specs.Rules.{default};
+ghost use Rattle.rules.specs.Settings.{lineRules};
 ghost use Rattle.parts.specs.LineEnd.{lineEnd};
-ghost use Rattle.fields.specs.Line.{header as headerOf, end as endOf, line as lineAt, lastly, onward, lineOf};
+ghost use Rattle.fields.specs.Line.{end as endOf, line as lineAt, onward, lineOf};
 use parts::Error;
 use parts::Fault;
 use parts::Found;
 use parts::Passed;
 use parts::Piece;
+use rules::LineSettings;
 
 pub struct Header {
     pub name: Piece,
     pub value: Piece,
 }
 
-// What reading one line finds: a header and the position behind its line; the end of the block; more is wanted; a byte is wrong.
+// What reading one line finds: a header and the position behind its line or lines; the end of the block; more is wanted; a byte is wrong.
 pub enum Line {
     Header(Header, usize),
     End(usize),
@@ -24,25 +26,13 @@ pub enum Line {
     Bad(Fault),
 }
 
-// The end of a header's line.
-fn header_end(s: &[u8], header: Header, at: usize) -> Line
-    ensures { λ r. ⌜ lineOf r ≡ lastly (headerOf header) (now (s .entry)) at ⌝ }
+// A value, and the end of its line or lines.
+fn header_value(s: &[u8], name: Piece, at: usize, settings: LineSettings) -> Line
+    ensures { λ r. ⌜ lineOf r ≡ onward (lineRules settings) (now (s .entry)) name at ⌝ }
 {
-    let end = parts::line_end(s, at, Error::HeaderValue);
-    match end {
-        Passed::At(next) => Line::Header(header, next),
-        Passed::More => Line::More,
-        Passed::Bad(e) => Line::Bad(e),
-    }
-}
-
-// A value, and the end of its line.
-fn header_value(s: &[u8], name: Piece, at: usize) -> Line
-    ensures { λ r. ⌜ lineOf r ≡ onward name (now (s .entry)) at ⌝ }
-{
-    let found = values::value(s, at);
+    let found = folds::lines(s, at, settings.multiline_headers);
     match found {
-        Found::At(value, next) => header_end(s, Header { name, value }, next),
+        Found::At(value, next) => Line::Header(Header { name, value }, next),
         Found::More => Line::More,
         Found::Bad(e) => Line::Bad(e),
     }
@@ -61,8 +51,8 @@ fn block_end(s: &[u8], at: usize) -> Line
 }
 
 // The line that starts at `at`.
-pub fn header_line(s: &[u8], at: usize) -> Line
-    ensures { λ r. ⌜ lineOf r ≡ lineAt default (now (s .entry)) at ⌝ }
+pub fn header_line(s: &[u8], at: usize, settings: LineSettings) -> Line
+    ensures { λ r. ⌜ lineOf r ≡ lineAt (lineRules settings) (now (s .entry)) at ⌝ }
 {
     if s.len() <= at {
         return Line::More;
@@ -70,9 +60,9 @@ pub fn header_line(s: &[u8], at: usize) -> Line
     if (s[at] == 13) | (s[at] == 10) {
         return block_end(s, at);
     }
-    let found = words::token(s, at, 58, Error::HeaderName);
+    let found = names::name(s, at, settings.spaces_after_name);
     match found {
-        Found::At(name, next) => header_value(s, name, next),
+        Found::At(name, next) => header_value(s, name, next, settings),
         Found::More => Line::More,
         Found::Bad(e) => Line::Bad(e),
     }

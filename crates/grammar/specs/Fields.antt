@@ -1,5 +1,5 @@
--- Names and values of fields: RFC 9110, sections 5.1, 5.5 and 5.6, over its bytes in octets/specs/Grammar.antt. RWS is left out, since
--- nothing that is read here needs it.
+-- Names and values of fields: RFC 9110, sections 5.1, 5.5 and 5.6, over its bytes in octets/specs/Grammar.antt. RWS is left out,
+-- since of obs-fold, which has it, the lines of a value need the first blank alone (Message).
 -- Assumes nothing.
 use Prim.Native.Nat.{ℕ}
 use mathlib.Core.List.{List, [], _∷_, _++_}

@@ -1,16 +1,15 @@
 -- The head of a message: RFC 9112, sections 2 to 5, over the rules of a reading. A definition with another name than a rule of the RFC is
--- a part of the one whose section it cites. Left out are the body, with the fields that say how long it is; what a Host field must be; and
--- what no reading takes yet: obs-fold (5.2), blanks before a colon (5.1), and lines that begin with blanks (2.2).
+-- a part of the one whose section it cites. Left out are the body, with the fields that say how long it is, and what a Host field must be.
 -- Assumes nothing.
 use Prim.Native.Nat.{ℕ, _+_, _-_, _*_}
 use mathlib.Core.Path.{_≡_}
 use mathlib.Core.List.{List, [], _∷_, _++_}
-use mathlib.Core.Bool.{true, false}
+use mathlib.Core.Bool.{Bool, true, false}
 use Rattle.octets.specs.Grammar.{Range, DIGIT, VCHAR, obs-text, field-vchar, blank, text}
 use Rattle.utf8.specs.Grammar.{UTF8-octets}
 use Rattle.rules.specs.Rules.{Rules}
 use Rattle.grammar.specs.Rows.{Many, Some}
-use Rattle.grammar.specs.Fields.{token, OWS, field-name, field-value, Field}
+use Rattle.grammar.specs.Fields.{token, field-name, field-value, Field}
 
 -- single bytes between the parts
 abbrev pub space : List ℕ
@@ -47,6 +46,11 @@ pub data HTTP-version (r : Rules) : List ℕ → Version → Type 0 where
   one-one : HTTP-version r (HTTP-name ++ (0x2F ∷ 0x31 ∷ 0x2E ∷ 0x31 ∷ [])) (record { major = 1; minor = 1 })
   other : {a b : ℕ} → r .known-versions ≡ false → DIGIT a → DIGIT b → HTTP-version r (HTTP-name ++ (0x2F ∷ a ∷ 0x2E ∷ b ∷ [])) (record { major = a - 0x30; minor = b - 0x30 })
 
+-- 3 and 4: SP, or, where a setting lets several stand there, one or more of them
+pub data delimiter (several : Bool) : List ℕ → Type 0 where
+  one : delimiter several space
+  more : {w : List ℕ} → several ≡ true → delimiter several w → delimiter several (0x20 ∷ w)
+
 -- 3.1: method = token
 abbrev pub method : List ℕ → Type 0
 method = token
@@ -61,9 +65,13 @@ pub record RequestLine : Type 0 where
   pub target : List ℕ
   pub version : Version
 
+-- 3: the SP between the parts of a request line; a recipient may take other white space for it
+abbrev pub request-space : Rules → List ℕ → Type 0
+request-space r = delimiter (r .spaces-in-request-line)
+
 -- 3: request-line = method SP request-target SP HTTP-version
 pub data request-line (r : Rules) : List ℕ → RequestLine → Type 0 where
-  line : {m t v : List ℕ} {n : Version} → method m → request-target r t → HTTP-version r v n → request-line r (m ++ space ++ t ++ space ++ v) (record { method = m; target = t; version = n })
+  line : {m d t e v : List ℕ} {n : Version} → method m → request-space r d → request-target r t → request-space r e → HTTP-version r v n → request-line r (m ++ d ++ t ++ e ++ v) (record { method = m; target = t; version = n })
 
 -- 4: status-code = 3DIGIT, of which the first is the class, 1 to 5 (RFC 9110, 15)
 pub data status-code (r : Rules) : List ℕ → ℕ → Type 0 where
@@ -86,24 +94,65 @@ pub record StatusLine : Type 0 where
   pub code : ℕ
   pub reason : List ℕ
 
+-- 4: the SP between the parts of a status line; a recipient may take other white space for it, as in 3
+abbrev pub status-space : Rules → List ℕ → Type 0
+status-space r = delimiter (r .spaces-in-status-line)
+
+-- 4: where several spaces part a code from a reason, all of them do, and none is of the reason
+abbrev pub no-space-left : Rules → List ℕ → Type 0
+no-space-left r w = r .spaces-in-status-line ≡ true → (u : List ℕ) → w ≡ 0x20 ∷ u → ⊥
+
 -- 4: status-line = HTTP-version SP status-code SP [ reason-phrase ]
 pub data status-line (r : Rules) : List ℕ → StatusLine → Type 0 where
-  reason : {v c w g : List ℕ} {n : Version} {k : ℕ} → HTTP-version r v n → status-code r c k → reason-phrase r w g → status-line r (v ++ space ++ c ++ space ++ w) (record { version = n; code = k; reason = g })
-  no-reason : {v c : List ℕ} {n : Version} {k : ℕ} → HTTP-version r v n → status-code r c k → status-line r (v ++ space ++ c ++ space) (record { version = n; code = k; reason = [] })
-  code-ends : {v c : List ℕ} {n : Version} {k : ℕ} → r .code-ends-line ≡ true → HTTP-version r v n → status-code r c k → status-line r (v ++ space ++ c) (record { version = n; code = k; reason = [] })
+  reason : {v d c e w g : List ℕ} {n : Version} {k : ℕ} → HTTP-version r v n → status-space r d → status-code r c k → status-space r e → reason-phrase r w g → no-space-left r w → status-line r (v ++ d ++ c ++ e ++ w) (record { version = n; code = k; reason = g })
+  no-reason : {v d c e : List ℕ} {n : Version} {k : ℕ} → HTTP-version r v n → status-space r d → status-code r c k → status-space r e → status-line r (v ++ d ++ c ++ e) (record { version = n; code = k; reason = [] })
+  code-ends : {v d c : List ℕ} {n : Version} {k : ℕ} → r .code-ends-line ≡ true → HTTP-version r v n → status-space r d → status-code r c k → status-line r (v ++ d ++ c) (record { version = n; code = k; reason = [] })
+
+-- 5.1: nothing between a name and its colon; blanks there, which a server refuses in a request and a proxy takes out of a response
+pub data behind-name (r : Rules) : List ℕ → Type 0 where
+  nothing : behind-name r []
+  blanks : {w : List ℕ} → r .spaces-after-name ≡ true → Some blank w → behind-name r w
+
+-- 5.2: obs-fold = OWS CRLF RWS; here its line end and the first blank behind that, since its other blanks are among those around or within a
+-- value. A server refuses it, or puts spaces in its place, and so does a proxy; a user agent puts spaces in its place
+pub data obs-fold (r : Rules) : List ℕ → Type 0 where
+  fold : {e : List ℕ} {b : ℕ} → r .multiline-headers ≡ true → line-end r e → blank b → obs-fold r (e ++ (b ∷ []))
+
+-- 5 and 5.2: OWS around a value, with folds among its blanks
+pub data around-value (r : Rules) : List ℕ → Type 0 where
+  none : around-value r []
+  more : {b : ℕ} {w : List ℕ} → blank b → around-value r w → around-value r (b ∷ w)
+  folded : {f w : List ℕ} → obs-fold r f → around-value r w → around-value r (f ++ w)
+
+-- 5.2: what stands within a value that is folded
+pub data within-value (r : Rules) : List ℕ → Type 0 where
+  none : within-value r []
+  more : {b : ℕ} {w : List ℕ} → text b → within-value r w → within-value r (b ∷ w)
+  folded : {f w : List ℕ} → obs-fold r f → within-value r w → within-value r (f ++ w)
+
+-- 5 and 5.2: field-value, perhaps with folds in it. Then what is given is its bytes as they stand, line ends included, trimmed at both ends of
+-- spaces, tabs, CR and LF; RFC 9110, 5.5, has a recipient put a space in the place of each CR and LF, which is left to the caller
+pub data value-lines (r : Rules) : List ℕ → Type 0 where
+  one : {v : List ℕ} → field-value v → value-lines r v
+  several : {b c : ℕ} {m : List ℕ} → r .multiline-headers ≡ true → field-vchar b → within-value r m → field-vchar c → value-lines r ((b ∷ m) ++ (c ∷ []))
 
 -- 5: field-line = field-name ":" OWS field-value OWS
-pub data field-line : List ℕ → Field → Type 0 where
-  line : {n o v t : List ℕ} → field-name n → OWS o → field-value v → OWS t → field-line (n ++ colon ++ o ++ v ++ t) (record { name = n; value = v })
+pub data field-line (r : Rules) : List ℕ → Field → Type 0 where
+  line : {n s o v t : List ℕ} → field-name n → behind-name r s → around-value r o → value-lines r v → around-value r t → field-line r (n ++ s ++ colon ++ o ++ v ++ t) (record { name = n; value = v })
 
 -- 2.1: *( field-line CRLF ) CRLF
 pub data header-block (r : Rules) : List ℕ → List Field → Type 0 where
   end : {e : List ℕ} → line-end r e → header-block r e []
-  field : {w e b : List ℕ} {f : Field} {fs : List Field} → field-line w f → line-end r e → header-block r b fs → header-block r (w ++ e ++ b) (f ∷ fs)
+  field : {w e b : List ℕ} {f : Field} {fs : List Field} → field-line r w f → line-end r e → header-block r b fs → header-block r (w ++ e ++ b) (f ∷ fs)
+
+-- 2.2: nothing between a start line and what follows it; blanks there, for which a recipient refuses the message or passes over the line
+pub data before-first-name (r : Rules) : List ℕ → Type 0 where
+  nothing : before-first-name r []
+  blanks : {w : List ℕ} → r .space-before-first-name ≡ true → Some blank w → before-first-name r w
 
 -- 2.1: HTTP-message without its body: start-line CRLF *( field-line CRLF ) CRLF, whatever the start line is
 pub data head (r : Rules) {L : Type 0} (start-line : List ℕ → L → Type 0) : List ℕ → L → List Field → Type 0 where
-  message : {e w c b : List ℕ} {l : L} {fs : List Field} → empty-lines r e → start-line w l → line-end r c → header-block r b fs → head r start-line (e ++ w ++ c ++ b) l fs
+  message : {e w c s b : List ℕ} {l : L} {fs : List Field} → empty-lines r e → start-line w l → line-end r c → before-first-name r s → header-block r b fs → head r start-line (e ++ w ++ c ++ s ++ b) l fs
 
 -- 2.1: the head of a request, what its start line says, and its fields
 abbrev pub request-head : Rules → List ℕ → RequestLine → List Field → Type 0

@@ -1,7 +1,6 @@
 // Heads in a row.
 use rowread::RowRead;
 use rowread::Stop;
-use rules::Settings;
 
 // Into `out` go how many heads were read, the position behind them, and that of an error, else 0. The answer is 0 where all of the input was
 // read, 1 where the next head is incomplete, a number from 2 on for its error, and 10 where there is no room for one more end.
@@ -28,10 +27,12 @@ pub extern "C" fn harness_requests(
     slots: &mut [usize],
     ends: &mut [usize],
     out: &mut [usize; 3],
-    ascii_targets: bool,
+    settings: u32,
 ) -> u32 {
-    let settings = Settings { ascii_targets };
-    told(rows::requests(buf, slots, ends, settings), out)
+    told(
+        rows::requests(buf, slots, ends, numbers::settings_of(settings)),
+        out,
+    )
 }
 
 #[no_mangle]
@@ -40,6 +41,10 @@ pub extern "C" fn harness_responses(
     slots: &mut [usize],
     ends: &mut [usize],
     out: &mut [usize; 3],
+    settings: u32,
 ) -> u32 {
-    told(rows::responses(buf, slots, ends), out)
+    told(
+        rows::responses(buf, slots, ends, numbers::settings_of(settings)),
+        out,
+    )
 }

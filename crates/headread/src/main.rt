@@ -1,6 +1,7 @@
 // Headread, the program for people: reads a head or a chunk size line and prints what it found.
 mod arguments;
 mod input;
+mod settings;
 
 use arguments::Call;
 use arguments::Mode;
@@ -62,7 +63,7 @@ fn show_plain(page: &mut Page, kind: Kind, settings: Settings, s: &[u8]) {
     match plain {
         Writing::Written(n) => write(STDOUT_FILENO, page, n),
         Writing::Unwritable => {
-            let n = report::report(page, kind, false, s, settings);
+            let n = report::no_plain_form(page, kind, s, settings);
             write(STDERR_FILENO, page, n);
         }
         Writing::Needs(_) => refuse_size(),

@@ -3,37 +3,41 @@
 use Prim.Native.Nat.{ℕ, _/_, _%_}
 use mathlib.Core.Path.{_≡_, sym, ap, subst, _∙_}
 use mathlib.Core.List.{List, [], _∷_}
-use lib.Dec.{eqb}
 use Rattle.rules.specs.declared.Settings.{Settings}
 use Rattle.rules.specs.Rules.{default}
-use Rattle.rules.specs.Settings.{rulesOf, off, ascii-targets}
+use Rattle.rules.specs.Settings.{requestRules, responseRules}
 use Rattle.blocks.specs.declared.Block.{Block}
 use Rattle.chunks.specs.declared.ChunkSize.{ChunkSize}
 use Rattle.chunks.specs.Chunk.{chunk, sizeOf}
 use Rattle.agreement.specs.Promises.{ChunkPromise, SizeFaultPromise}
 use Rattle.numbers.specs.Numbers.{settingsOf, positionOf, blockNumbers, sizeKind, sizeNumbers}
-use Rattle.headreader.specs.Exports.{ExportBy, RequestExport, SizeExport}
+use Rattle.headreader.specs.Exports.{RequestBy, ResponseBy, RequestExport, ResponseExport, SizeExport}
 
 pub block-numbers : (block : Block) {p : ℕ} {out : List ℕ} → p ≡ positionOf (block .end) → out ≡ p ∷ block .count ∷ 0 ∷ 0 ∷ 0 ∷ 0 ∷ 0 ∷ 0 ∷ [] → out ≡ blockNumbers block
 block-numbers block a o = o ∙ rw a
 
--- the bit of a setting alone decides about it
-bit-test : (bits d : ℕ) → (bits / 128) % 2 ≡ d → settingsOf bits ≡ record { «ascii_targets» = eqb d 1 }
-bit-test bits d e = ap (λ y. record { «ascii_targets» = eqb y 1 }) e
-
-pub bit-clear : (bits : ℕ) → (bits / 128) % 2 ≡ 0 → settingsOf bits ≡ off
-bit-clear bits = bit-test bits 0
-
-pub bit-set : (bits : ℕ) → (bits / 128) % 2 ≡ 1 → settingsOf bits ≡ ascii-targets
-bit-set bits = bit-test bits 1
-
 -- the same settings choose the same rules
-pub exported-by : {a b : Settings} {s old : List ℕ} {r : ℕ} {out new : List ℕ} → a ≡ b → ExportBy (rulesOf a) s old r out new → ExportBy (rulesOf b) s old r out new
-exported-by {s = s} {old = old} {r = r} {out = out} {new = new} e x = subst (λ y. ExportBy (rulesOf y) s old r out new) e x
+module _ {a b : Settings} {s old : List ℕ} {r : ℕ} {out new : List ℕ} (e : a ≡ b) where
+  pub request-by : RequestBy (requestRules a) s old r out new → RequestBy (requestRules b) s old r out new
+  request-by x = subst (λ y. RequestBy (requestRules y) s old r out new) e x
 
--- with the bit clear, whatever the other bits are, the function for C tells the answer under the default, as it did before there were settings
-pub request-clear : (bits : ℕ) {s old : List ℕ} {r : ℕ} {out new : List ℕ} → (bits / 128) % 2 ≡ 0 → RequestExport s old r out new bits → ExportBy default s old r out new
-request-clear bits e x = exported-by (bit-clear bits e) x
+  pub response-by : ResponseBy (responseRules a) s old r out new → ResponseBy (responseRules b) s old r out new
+  response-by x = subst (λ y. ResponseBy (responseRules y) s old r out new) e x
+
+-- with the bits clear that concern a request, whatever the others are, the function for C tells the answer under the default, as it did before
+-- there were settings; so of a response
+module _ (bits : ℕ) {s old : List ℕ} {r : ℕ} {out new : List ℕ} where
+  pub request-clear : (bits / 4) % 2 ≡ 0 → (bits / 16) % 2 ≡ 0 → (bits / 128) % 2 ≡ 0 → RequestExport s old r out new bits → RequestBy default s old r out new
+  request-clear a b c x = subst (λ y. RequestBy y s old r out new) same x
+    where
+      same : requestRules (settingsOf bits) ≡ default
+      same = rw (a, b, c)
+
+  pub response-clear : bits % 2 ≡ 0 → (bits / 2) % 2 ≡ 0 → (bits / 8) % 2 ≡ 0 → (bits / 16) % 2 ≡ 0 → ResponseExport s old r out new bits → ResponseBy default s old r out new
+  response-clear a b c d x = subst (λ y. ResponseBy y s old r out new) same x
+    where
+      same : responseRules (settingsOf bits) ≡ default
+      same = rw (a, b, c, d)
 
 -- a chunk size line: z is what the arm took it for
 pub size-told : {s : List ℕ} {size z : ChunkSize} {r : ℕ} {out : List ℕ} → sizeOf size ≡ chunk default s → ChunkPromise s size → SizeFaultPromise s size → size ≡ z → r ≡ sizeKind z → out ≡ sizeNumbers z → SizeExport s r out

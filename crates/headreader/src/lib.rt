@@ -17,7 +17,6 @@ pub extern "C" fn hr_request(
     numbers::kind(end)
 }
 
-// No setting changes a response yet.
 #[no_mangle]
 pub extern "C" fn hr_response(
     buf: &[u8],
@@ -25,9 +24,9 @@ pub extern "C" fn hr_response(
     out: &mut [usize; 8],
     settings: u32,
 ) -> u32
-    ensures { λ r. ⌜ ResponseExport (now (buf .entry)) (now (slots .entry)) r (now (out .exit)) (now (slots .exit)) ⌝ }
+    ensures { λ r. ⌜ ResponseExport (now (buf .entry)) (now (slots .entry)) r (now (out .exit)) (now (slots .exit)) settings ⌝ }
 {
-    let head = calls::response(buf, slots);
+    let head = calls::response(buf, slots, numbers::settings_of(settings));
     let end = head.end;
     numbers::put_response(out, head);
     numbers::kind(end)

@@ -3,13 +3,14 @@ ghost use mathlib.Core.List.{[]};
 ghost use Prim.Native.Nat.{_/_};
 ghost use lib.ListN.{length};
 ghost use Rattle.rules.specs.Rules.{default};
-ghost use Rattle.rules.specs.Settings.{rulesOf};
+ghost use Rattle.rules.specs.Settings.{requestRules, responseRules};
 ghost use Rattle.blocks.specs.Block.{block, Told as BlockTold};
 ghost use Rattle.heads.specs.Head.{Told};
 ghost use Rattle.heads.specs.Calls.{request as requestOf, response as responseOf};
 use blocks::Block;
 use parts::Passed;
 use requestline::RequestLine;
+use rules::LineSettings;
 use rules::Settings;
 use statusline::StatusLine;
 
@@ -29,14 +30,23 @@ pub struct ResponseHead {
 
 // A header takes four numbers of `slots`: where its name is, the name's length, where its value is, the value's length.
 pub fn request(s: &[u8], slots: &mut [usize], settings: Settings) -> RequestHead
-    ensures { λ r. ⌜ Told (requestOf (rulesOf settings) (length (now (slots .entry)) / 4) (now (s .entry))) (r .end) (r .line) (r .count) (now (slots .entry)) (now (slots .exit)) ⌝ }
+    ensures { λ r. ⌜ Told (requestOf (requestRules settings) (length (now (slots .entry)) / 4) (now (s .entry))) (r .end) (r .line) (r .count) (now (slots .entry)) (now (slots .exit)) ⌝ }
 {
     let read = requestline::request_line(s, settings);
     let line = read.line;
     let end = read.end;
     match end {
         Passed::At(next) => {
-            let block = blocks::header_block(s, next, slots);
+            let start = gaps::blanks(s, next, settings.space_before_first_name);
+            let block = blocks::header_block(
+                s,
+                start,
+                slots,
+                LineSettings {
+                    spaces_after_name: false,
+                    multiline_headers: false,
+                },
+            );
             let end = block.end;
             RequestHead {
                 end,
@@ -57,15 +67,24 @@ pub fn request(s: &[u8], slots: &mut [usize], settings: Settings) -> RequestHead
     }
 }
 
-pub fn response(s: &[u8], slots: &mut [usize]) -> ResponseHead
-    ensures { λ r. ⌜ Told (responseOf default (length (now (slots .entry)) / 4) (now (s .entry))) (r .end) (r .line) (r .count) (now (slots .entry)) (now (slots .exit)) ⌝ }
+pub fn response(s: &[u8], slots: &mut [usize], settings: Settings) -> ResponseHead
+    ensures { λ r. ⌜ Told (responseOf (responseRules settings) (length (now (slots .entry)) / 4) (now (s .entry))) (r .end) (r .line) (r .count) (now (slots .entry)) (now (slots .exit)) ⌝ }
 {
-    let read = statusline::status_line(s);
+    let read = statusline::status_line(s, settings);
     let line = read.line;
     let end = read.end;
     match end {
         Passed::At(next) => {
-            let rest = blocks::header_block(s, next, slots);
+            let first = gaps::blanks(s, next, settings.space_before_first_name);
+            let rest = blocks::header_block(
+                s,
+                first,
+                slots,
+                LineSettings {
+                    spaces_after_name: settings.spaces_after_name,
+                    multiline_headers: settings.multiline_headers,
+                },
+            );
             let end = rest.end;
             ResponseHead {
                 end,
@@ -89,5 +108,13 @@ pub fn response(s: &[u8], slots: &mut [usize]) -> ResponseHead
 pub fn headers(s: &[u8], slots: &mut [usize]) -> Block
     ensures { λ r. ⌜ BlockTold (block default (length (now (slots .entry)) / 4) [] (now (s .entry)) 0) r (now (slots .entry)) (now (slots .exit)) ⌝ }
 {
-    blocks::header_block(s, 0, slots)
+    blocks::header_block(
+        s,
+        0,
+        slots,
+        LineSettings {
+            spaces_after_name: false,
+            multiline_headers: false,
+        },
+    )
 }

@@ -1,10 +1,14 @@
 pub mod Rows
 pub mod LineEnd
+pub mod Byte
+pub mod Gap
+pub mod Name
 pub mod Word
 pub mod Version
 pub mod Status
 pub mod EmptyLines
 pub mod BehindCode
 pub mod Value
+pub mod Folded
 pub mod Target
 pub mod Reason

@@ -1,37 +1,16 @@
--- A space, and a code of three digits: their readers take exactly these.
+-- A code is read exactly where three digits stand.
 -- Assumes nothing.
 use Prim.Native.Nat.{ℕ, _+_}
 use native.Mathlib.Omega.{arith}
 use mathlib.Core.Path.{_≡_, refl, sym, ap, subst, _∙_}
 use mathlib.Core.List.{List, [], _∷_, _++_}
-use lib.Dec.{eqb}
 use lib.ListN.{length}
-use borrow.Author.Tests.{eqb-true}
 use Rattle.reader.specs.Machine.{gave, after, run}
 use Rattle.reader.specs.Tests.{split, never}
 use Rattle.exact.specs.Exact.{Part, Exact}
 use Rattle.octets.specs.Class.{isDigit}
-use Rattle.parts.specs.declared.Error.{Error}
-use Rattle.spaces.specs.Space.{spaceStep}
 use Rattle.status.specs.Code.{none, one, two, onto, codeStep}
 use Rattle.leaves.specs.Rows.{In}
-
-pub data Spaced (p : ℕ) : List ℕ → Unit {0} → List ℕ → Type 0 where
-  space : {rest : List ℕ} → Spaced p (32 ∷ []) tt rest
-
-module _ (x : Error) where
-  sound-space : (p : ℕ) (xs : List ℕ) (a : Unit {0}) (q : ℕ) → run (spaceStep x) tt p xs ≡ gave a q → Part Spaced p xs a q
-  sound-space p [] a q = λ e. never cc
-  sound-space p (b ∷ bs) a q =
-      split (λ u. after u p (λ s. run (spaceStep x) s (p + 1) bs) ≡ gave a q → Part Spaced p (b ∷ bs) a q) (eqb b 32)
-      (λ t e. let j : p + 1 ≡ q = cc in record { w = 32 ∷ []; rest = bs; whole = ap (λ y. y ∷ bs) (eqb-true b 32 t); place = sym j; holds = space })
-      (λ t e. never cc)
-
-  complete-space : (p : ℕ) (w rest : List ℕ) (a : Unit {0}) → Spaced p w a rest → run (spaceStep x) tt p (w ++ rest) ≡ gave a (p + length w)
-  complete-space p w rest a space = refl
-
-  pub exact-space : Exact (spaceStep x) tt Spaced
-  exact-space = record { sound = sound-space; complete = complete-space }
 
 -- three digits, and the number that they write
 pub data Coded (p : ℕ) : List ℕ → ℕ → List ℕ → Type 0 where

@@ -77,7 +77,7 @@ pub data Valued (p : ℕ) : List ℕ → Piece → List ℕ → Type 0 where
   full : {o v t rest : List ℕ} → Many (In isBlank) o → Core v → Many (In isBlank) t → Stop rest → Valued p (o ++ v ++ t) (piece (p + length o) (p + length o + length v)) rest
 
 -- one blank more in front
-valued-more : (p b : ℕ) {w : List ℕ} {a : Piece} {rest : List ℕ} → isBlank b ≡ true → Valued (p + 1) w a rest → Valued p (b ∷ w) a rest
+pub valued-more : (p b : ℕ) {w : List ℕ} {a : Piece} {rest : List ℕ} → isBlank b ≡ true → Valued (p + 1) w a rest → Valued p (b ∷ w) a rest
 valued-more p b h (empty {o = o} k s) = let n : p + 1 + length o ≡ p + length (b ∷ o) = omega arith in rw n (empty {o = b ∷ o} (more h k) s)
 valued-more p b h (full {o = o} {v = v} {t = t} k c u s) = let n : p + 1 + length o ≡ p + length (b ∷ o) = omega arith in rw n (full {o = b ∷ o} {v = v} {t = t} (more h k) c u s)
 

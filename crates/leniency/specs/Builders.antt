@@ -17,7 +17,7 @@ use Rattle.grammar.specs.Message.{space, colon, CRLF, crlf, request-target, sta
 use Rattle.grammar.specs.Message as grammar
 use Rattle.leaves.specs.Rows.{In}
 use Rattle.leaves.specs.Value.{Solid, Core, one, two}
-use Rattle.agreement.specs.Rows.{some-as, tokens}
+use Rattle.agreement.specs.Rows.{many-as, some-as, tokens}
 use Rattle.agreement.specs.Value.{core-value, is-solid}
 use Rattle.leniency.specs.Text.{ascii}
 
@@ -96,18 +96,30 @@ printable-is b true t h k e = let r = in-range 0x20 0x20 b h in grammar.ascii-te
 printable-is b false true h k e = grammar.ascii-text.visible (in-range 0x21 0x7E b k)
 printable-is b false false h k e = absurd (false≢true e)
 
-pub a-reason : {r : Rules} (w : String) → some-all printable (ascii w) ≡ true → grammar.reason-phrase r (ascii w) (ascii w)
-a-reason w h = grammar.reason-phrase.ascii (some-as (λ b. printable-is b (within 0x20 0x20 b) (within 0x21 0x7E b) refl refl) (some-row printable (ascii w) h))
+-- a reason that begins with no space, so that it is one whatever the rules are
+abbrev pub worded : List ℕ → Bool
+worded [] = false
+worded (b ∷ w) = within 0x21 0x7E b && all printable w
+
+worded-text : (w : List ℕ) → worded w ≡ true → Some ascii-text w
+worded-text [] h = absurd (false≢true h)
+worded-text (b ∷ w) h =
+    let k = both-true (within 0x21 0x7E b) (all printable w) h in
+    some (grammar.ascii-text.visible (in-range 0x21 0x7E b (k .0))) (many-as (λ c. printable-is c (within 0x20 0x20 c) (within 0x21 0x7E c) refl refl) (row printable w (k .1)))
+
+worded-first : (w : List ℕ) → worded w ≡ true → (u : List ℕ) → w ≡ 0x20 ∷ u → ⊥
+worded-first [] h u e = absurd (false≢true h)
+worded-first (b ∷ w) h u e = let same : b ≡ 0x20 = cc in omega (arith, in-range 0x21 0x7E b (both-true (within 0x21 0x7E b) (all printable w) h .0) .low, same)
 
 -- the lines of a head
 pub the-end : {r : Rules} → header-block r CRLF []
 the-end = grammar.header-block.end crlf
 
-pub a-field : {r : Rules} (n v : String) → some-all isToken (ascii n) ≡ true → solid (ascii v) ≡ true → {b : List ℕ} {fs : List Field} → header-block r b fs → header-block r (ascii n ++ colon ++ space ++ ascii v ++ [] ++ CRLF ++ b) (record { name = ascii n; value = ascii v } ∷ fs)
-a-field n v h k b = grammar.header-block.field (grammar.field-line.line (a-token n h) (more (bytes.blank.space refl) none) (a-value v k) none) crlf b
+pub a-field : {r : Rules} (n v : String) → some-all isToken (ascii n) ≡ true → solid (ascii v) ≡ true → {b : List ℕ} {fs : List Field} → header-block r b fs → header-block r (ascii n ++ [] ++ colon ++ space ++ ascii v ++ [] ++ CRLF ++ b) (record { name = ascii n; value = ascii v } ∷ fs)
+a-field n v h k b = grammar.header-block.field (grammar.field-line.line (a-token n h) grammar.behind-name.nothing (grammar.around-value.more (bytes.blank.space refl) grammar.around-value.none) (grammar.value-lines.one (a-value v k)) grammar.around-value.none) crlf b
 
-pub a-request : {r : Rules} (m t : String) → some-all isToken (ascii m) ≡ true → some-all (within 0x21 0x7E) (ascii t) ≡ true → {b : List ℕ} {fs : List Field} → header-block r b fs → request-head r (ascii m ++ space ++ ascii t ++ space ++ ascii "HTTP/1.1" ++ CRLF ++ b) (record { method = ascii m; target = ascii t; version = record { major = 1; minor = 1 } }) fs
-a-request m t h k b = grammar.head.message grammar.empty-lines.none (grammar.request-line.line (a-token m h) (a-target t k) grammar.one-one) crlf b
+pub a-request : {r : Rules} (m t : String) → some-all isToken (ascii m) ≡ true → some-all (within 0x21 0x7E) (ascii t) ≡ true → {b : List ℕ} {fs : List Field} → header-block r b fs → request-head r (ascii m ++ space ++ ascii t ++ space ++ ascii "HTTP/1.1" ++ CRLF ++ [] ++ b) (record { method = ascii m; target = ascii t; version = record { major = 1; minor = 1 } }) fs
+a-request m t h k b = grammar.head.message grammar.empty-lines.none (grammar.request-line.line (a-token m h) grammar.delimiter.one (a-target t k) grammar.delimiter.one grammar.one-one) crlf grammar.before-first-name.nothing b
 
 -- three digits, of which the first is from 1 to 5
 abbrev pub digits : ℕ → ℕ → ℕ → Bool
@@ -119,5 +131,5 @@ a-code x y z h =
     let l = both-true (within 0x31 0x35 (0x30 + x)) (within 0x30 0x39 (0x30 + y)) (k .0) in
     grammar.status-code.class (in-range 0x31 0x35 (0x30 + x) (l .0)) (in-range 0x30 0x39 (0x30 + y) (l .1)) (in-range 0x30 0x39 (0x30 + z) (k .1))
 
-pub a-response : {r : Rules} (x y z : ℕ) (w : String) → digits x y z ≡ true → some-all printable (ascii w) ≡ true → {b : List ℕ} {fs : List Field} → header-block r b fs → response-head r (ascii "HTTP/1.1" ++ space ++ ((0x30 + x) ∷ (0x30 + y) ∷ (0x30 + z) ∷ []) ++ space ++ ascii w ++ CRLF ++ b) (record { version = record { major = 1; minor = 1 }; code = (0x30 + x - 0x30) * 100 + (0x30 + y - 0x30) * 10 + (0x30 + z - 0x30); reason = ascii w }) fs
-a-response x y z w h k b = grammar.head.message grammar.empty-lines.none (grammar.status-line.reason grammar.one-one (a-code x y z h) (a-reason w k)) crlf b
+pub a-response : {r : Rules} (x y z : ℕ) (w : String) → digits x y z ≡ true → worded (ascii w) ≡ true → {b : List ℕ} {fs : List Field} → header-block r b fs → response-head r (ascii "HTTP/1.1" ++ space ++ ((0x30 + x) ∷ (0x30 + y) ∷ (0x30 + z) ∷ []) ++ space ++ ascii w ++ CRLF ++ [] ++ b) (record { version = record { major = 1; minor = 1 }; code = (0x30 + x - 0x30) * 100 + (0x30 + y - 0x30) * 10 + (0x30 + z - 0x30); reason = ascii w }) fs
+a-response x y z w h k b = grammar.head.message grammar.empty-lines.none (grammar.status-line.reason grammar.one-one grammar.delimiter.one (a-code x y z h) grammar.delimiter.one (grammar.reason-phrase.ascii (worded-text (ascii w) k)) (λ t. worded-first (ascii w) k)) crlf grammar.before-first-name.nothing b

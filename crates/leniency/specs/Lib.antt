@@ -1,3 +1,9 @@
+pub mod Allows
+pub mod Before
+pub mod Off
+pub mod More
+pub mod Said
+pub mod Agree
 pub mod Strict
 pub mod Settings
 pub mod Text
@@ -6,4 +12,7 @@ pub mod Examples
 pub mod Real
 pub mod Shapes
 pub mod RealHeads
+pub mod RealSpaces
+pub mod Readings
+pub mod Shortest
 pub mod RealChunks

@@ -18,7 +18,7 @@ use Rattle.octets.specs.Outside.{differs, cr-no-blank, semicolon-no-blank, cr-n
 use Rattle.rules.specs.Rules.{Rules, default}
 use Rattle.grammar.specs.Rows.{Many, none, more, Some, some}
 use Rattle.grammar.specs.Message.{CRLF}
-use Rattle.grammar.specs.Chunked.{hexadecimal, chunk-size, chunk-ext, behind-size, chunk-line}
+use Rattle.grammar.specs.Chunked.{hexadecimal, chunk-size, behind-size, chunk-line}
 use Rattle.grammar.specs.Chunked as chunked
 use Rattle.chunks.specs.Chunk.{digits, chunkStep}
 use Rattle.agreement.specs.ChunkRead.{chunk-read}

@@ -1,63 +1,82 @@
--- Each setting is the default with one rule changed, in both directions.
+-- Plain ASCII targets are the default with one rule changed, in both directions (of the other settings Off, More and Said speak); and with all
+-- settings off the readers and the definition are the default's.
 -- Assumes nothing.
 use Prim.Native.Nat.{ℕ, _/_, _≤_}
-use native.Mathlib.Omega.{arith}
-use mathlib.Core.Path.{_≡_, sym, ap, _∙_}
+use mathlib.Core.Path.{_≡_, refl, ap}
 use mathlib.Core.Logic.{_↔_}
 use mathlib.Core.List.{List}
-use mathlib.Core.Bool.{false, false≢true}
+use mathlib.Core.Bool.{Bool, true, false, false≢true}
 use lib.ListN.{length}
 use Rattle.octets.specs.Grammar.{VCHAR}
+use Rattle.rules.specs.declared.Settings.{Settings}
 use Rattle.rules.specs.Rules.{Rules, default}
-use Rattle.rules.specs.Settings.{rulesOf, off, off-default, ascii-targets}
+use Rattle.rules.specs.Settings.{changed, requestRules, responseRules, off, off-request, off-response}
 use Rattle.grammar.specs.Rows.{Some}
 use Rattle.grammar.specs.Fields.{Field}
-use Rattle.grammar.specs.Message.{Version, HTTP-version, one-zero, one-one, RequestLine, request-line, request-head}
+use Rattle.grammar.specs.Message.{RequestLine, request-line, StatusLine, request-head, response-head}
 use Rattle.grammar.specs.Message as grammar
 use Rattle.parts.specs.declared.Passed.{Passed}
 use Rattle.parts.specs.declared.Passed.the-variants.{At}
 use Rattle.requestline.specs.declared.RequestLine as told
-use Rattle.heads.specs.Calls.{request}
+use Rattle.heads.specs.Calls.{request, response}
 use Rattle.agreement.specs.Known.{RequestSays, fieldsIn}
 use Rattle.agreement.specs.Promises.{HeadPromise}
-use Rattle.agreement.specs.Kept.{fields-counted}
-use Rattle.leniency.specs.Strict.{head-as}
+use Rattle.leniency.specs.Allows.{LinesAllowed, head-as}
+use Rattle.leniency.specs.More.{version-as}
+use Rattle.leniency.specs.Agree.{Agrees, agrees}
+use Rattle.plain.specs.Plain.{OneLine}
+use Rattle.plain.specs.OneLine.{head-off}
 
-version-as : {r s : Rules} {w : List ℕ} {v : Version} → (r .known-versions ≡ false → s .known-versions ≡ false) → HTTP-version r w v → HTTP-version s w v
-version-as f one-zero = one-zero
-version-as f one-one = one-one
-version-as f (grammar.HTTP-version.other t a b) = grammar.HTTP-version.other (f t) a b
+-- ascii_targets on and off, whatever the two other settings of a request are
+abbrev pub ascii-on : Bool → Bool → Rules
+ascii-on q f = changed false q false f false false
 
-line-by-default : (w : List ℕ) {l : RequestLine} → request-line (rulesOf ascii-targets) w l → request-line default w l
-line-by-default w (grammar.request-line.line m (grammar.request-target.visible k) v) = grammar.request-line.line m (grammar.request-target.visible k) (version-as (λ t. t) v)
-line-by-default w (grammar.request-line.line m (grammar.request-target.any t k u) v) = absurd (false≢true t)
+abbrev pub ascii-off : Bool → Bool → Rules
+ascii-off q f = changed true q false f false false
 
-line-by-ascii : (w : List ℕ) {l : RequestLine} → Some VCHAR (l .target) → request-line default w l → request-line (rulesOf ascii-targets) w l
-line-by-ascii w k (grammar.request-line.line m t v) = grammar.request-line.line m (grammar.request-target.visible k) (version-as (λ t. t) v)
+module _ (q f : Bool) where
+  line-without : {w : List ℕ} {l : RequestLine} → request-line (ascii-on q f) w l → request-line (ascii-off q f) w l
+  line-without (grammar.request-line.line m d (grammar.request-target.visible k) e v) = grammar.request-line.line m d (grammar.request-target.visible k) e (version-as (λ t. t) v)
+  line-without (grammar.request-line.line m d (grammar.request-target.any t k u) e v) = absurd (false≢true t)
 
-visible-line : {w : List ℕ} {l : RequestLine} → request-line (rulesOf ascii-targets) w l → Some VCHAR (l .target)
-visible-line (grammar.request-line.line m (grammar.request-target.visible k) v) = k
-visible-line (grammar.request-line.line m (grammar.request-target.any t k u) v) = absurd (false≢true t)
+  line-with : {w : List ℕ} {l : RequestLine} → Some VCHAR (l .target) → request-line (ascii-off q f) w l → request-line (ascii-on q f) w l
+  line-with k (grammar.request-line.line m d t e v) = grammar.request-line.line m d (grammar.request-target.visible k) e (version-as (λ t. t) v)
 
-visible-head : {w : List ℕ} {l : RequestLine} {fs : List Field} → request-head (rulesOf ascii-targets) w l fs → Some VCHAR (l .target)
-visible-head (grammar.head.message e k c b) = visible-line k
+  visible-line : {w : List ℕ} {l : RequestLine} → request-line (ascii-on q f) w l → Some VCHAR (l .target)
+  visible-line (grammar.request-line.line m d (grammar.request-target.visible k) e v) = k
+  visible-line (grammar.request-line.line m d (grammar.request-target.any t k u) e v) = absurd (false≢true t)
 
--- with it a request is what it is by default, and its target is visible ASCII
-pub ascii-request : {w : List ℕ} {l : RequestLine} {fs : List Field} → request-head (rulesOf ascii-targets) w l fs ↔ (request-head default w l fs × Some VCHAR (l .target))
-ascii-request = (λ h. (head-as (λ t. t) (λ t. t) (λ w. line-by-default w) h, visible-head h), λ x. head-as (λ t. t) (λ t. t) (λ w. line-by-ascii w (x .1)) (x .0))
+  visible-head : {w : List ℕ} {l : RequestLine} {fs : List Field} → request-head (ascii-on q f) w l fs → Some VCHAR (l .target)
+  visible-head (grammar.head.message e k c a b) = visible-line k
 
--- two readers of the same bytes, of which one has the setting on and the other off and slots enough, do not disagree about where a request ends
--- or what is in it
-pub ascii-agrees : {In In′ : List ℕ → told.RequestLine → Type 0} {s old old′ : List ℕ} {end end′ : Passed} {line line′ : told.RequestLine} {count count′ : ℕ} {new new′ : List ℕ} → HeadPromise (request-head (rulesOf ascii-targets)) RequestSays In s old end line count new → HeadPromise (request-head default) RequestSays In′ s old′ end′ line′ count′ new′ → (q : ℕ) → end ≡ At q → count ≤ length old′ / 4 →
-    (end′ ≡ At q) × (fieldsIn s count′ new′ ≡ fieldsIn s count new) × ((l : RequestLine) × RequestSays s line l × RequestSays s line′ l)
-ascii-agrees {s = s} {count = count} {new = new} P Q q e room =
-    let H = P .complete q e in
-    let A = Q .accepts (H .bytes) (H .rest) (H .said) (fieldsIn s count new) (H .whole) (ascii-request .0 (H .head) .0) (omega (arith, room, fields-counted s count new)) in
-    (A .0 ∙ ap At (sym (H .end)), A .2, (H .said, H .says, A .1))
+  lines-without : LinesAllowed (ascii-on q f) (ascii-off q f)
+  lines-without = record { lf-alone = λ t. t; empty-lines = λ t. t; space-before-first-name = λ t. t; spaces-after-name = λ t. t; multiline-headers = λ t. t }
 
--- with all settings off nothing has changed: the reader is the same, and so is the definition
-pub request-off : (n : ℕ) (s : List ℕ) → request (rulesOf off) n s ≡ request default n s
-request-off n s = ap (λ r. request r n s) off-default
+  lines-with : LinesAllowed (ascii-off q f) (ascii-on q f)
+  lines-with = record { lf-alone = λ t. t; empty-lines = λ t. t; space-before-first-name = λ t. t; spaces-after-name = λ t. t; multiline-headers = λ t. t }
 
-pub head-off : (w : List ℕ) (l : RequestLine) (fs : List Field) → request-head (rulesOf off) w l fs ≡ request-head default w l fs
-head-off w l fs = ap (λ r. request-head r w l fs) off-default
+  -- with it a request is what it is without it, and its target is visible ASCII
+  pub ascii-request : {w : List ℕ} {l : RequestLine} {fs : List Field} → request-head (ascii-on q f) w l fs ↔ (request-head (ascii-off q f) w l fs × Some VCHAR (l .target))
+  ascii-request = (λ h. (head-as lines-without (λ w. line-without) h, visible-head h), λ x. head-as lines-with (λ w. line-with (x .1)) (x .0))
+
+  -- two readers of the same bytes, of which one has the setting on and the other off and slots enough, do not disagree about where a request ends
+  -- or what is in it
+  pub ascii-agrees : {In In′ : List ℕ → told.RequestLine → Type 0} {s old old′ : List ℕ} {end end′ : Passed} {line line′ : told.RequestLine} {count count′ : ℕ} {new new′ : List ℕ} → HeadPromise (ascii-on q f) (request-head (ascii-on q f)) RequestSays In s old end line count new → HeadPromise (ascii-off q f) (request-head (ascii-off q f)) RequestSays In′ s old′ end′ line′ count′ new′ → (p : ℕ) → end ≡ At p → count ≤ length old′ / 4 → Agrees RequestSays s p end′ line line′ (fieldsIn s count new) (fieldsIn s count′ new′)
+  ascii-agrees = agrees (λ w l fs h. ascii-request .0 h .0)
+
+-- of a request no setting for the header lines of a response is asked: its values stand in one line, whatever the settings are
+pub request-in-one-line : (s : Settings) {w : List ℕ} {l : RequestLine} {fs : List Field} → request-head (requestRules s) w l fs → OneLine fs
+request-in-one-line s h = head-off refl h
+
+-- with all settings off the readers are the default's, and so is the definition
+pub request-off : (n : ℕ) (s : List ℕ) → request (requestRules off) n s ≡ request default n s
+request-off n s = ap (λ r. request r n s) off-request
+
+pub response-off : (n : ℕ) (s : List ℕ) → response (responseRules off) n s ≡ response default n s
+response-off n s = ap (λ r. response r n s) off-response
+
+pub request-head-off : (w : List ℕ) (l : RequestLine) (fs : List Field) → request-head (requestRules off) w l fs ≡ request-head default w l fs
+request-head-off w l fs = ap (λ r. request-head r w l fs) off-request
+
+pub response-head-off : (w : List ℕ) (l : StatusLine) (fs : List Field) → response-head (responseRules off) w l fs ≡ response-head default w l fs
+response-head-off w l fs = ap (λ r. response-head r w l fs) off-response

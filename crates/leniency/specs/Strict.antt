@@ -13,36 +13,23 @@ use Rattle.octets.specs.Grammar as bytes
 use Rattle.rules.specs.Rules.{Rules, strict, default}
 use Rattle.grammar.specs.Rows.{Many, none, more, Some, some}
 use Rattle.grammar.specs.Fields.{Field}
-use Rattle.grammar.specs.Message.{line-end, crlf, lf, empty-lines, Version, HTTP-version, one-zero, one-one, other, request-target, RequestLine, request-line, status-code, ascii-text, reason-phrase, StatusLine, status-line, header-block, head, request-head, response-head}
+use Rattle.grammar.specs.Message.{Version, HTTP-version, one-zero, one-one, other, request-target, RequestLine, request-line, status-code, ascii-text, reason-phrase, StatusLine, status-line, header-block, request-head, response-head}
 use Rattle.grammar.specs.Message as grammar
 use Rattle.agreement.specs.Rows.{some-as, many-append}
 use Rattle.grammar.specs.Chunked.{hexadecimal, chunk-size, behind-size, chunk-line}
 use Rattle.grammar.specs.Chunked as chunked
+use Rattle.leniency.specs.Allows.{LinesAllowed, block-as, head-as}
+
+never : {A : Type 0} → false ≡ true → A
+never e = absurd (false≢true e)
 
 -- the lines around a start line
-module _ {r s : Rules} (lf-too : r .lf-alone ≡ true → s .lf-alone ≡ true) where
-  line-end-as : {w : List ℕ} → line-end r w → line-end s w
-  line-end-as crlf = crlf
-  line-end-as (lf t) = lf (lf-too t)
-
-  block-as : {w : List ℕ} {fs : List Field} → header-block r w fs → header-block s w fs
-  block-as (grammar.header-block.end e) = grammar.header-block.end (line-end-as e)
-  block-as (grammar.header-block.field f e b) = grammar.header-block.field f (line-end-as e) (block-as b)
-
-  module _ (empty-too : r .empty-lines ≡ true → s .empty-lines ≡ true) where
-    empty-lines-as : {w : List ℕ} → empty-lines r w → empty-lines s w
-    empty-lines-as grammar.empty-lines.none = grammar.empty-lines.none
-    empty-lines-as (grammar.empty-lines.more t e k) = grammar.empty-lines.more (empty-too t) (line-end-as e) (empty-lines-as k)
-
-    pub head-as : {L : Type 0} {A B : List ℕ → L → Type 0} {w : List ℕ} {l : L} {fs : List Field} → ((v : List ℕ) → A v l → B v l) → head r A w l fs → head s B w l fs
-    head-as f (grammar.head.message {w = v} e l c b) = grammar.head.message (empty-lines-as e) (f v l) (line-end-as c) (block-as b)
+lines : LinesAllowed strict default
+lines = record { lf-alone = never; empty-lines = never; space-before-first-name = never; spaces-after-name = never; multiline-headers = never }
 
 -- known-versions: 1.0 or 1.1
 abbrev pub Known : Version → Type 0
 Known v = (v ≡ record { major = 1; minor = 0 }) ⊎ (v ≡ record { major = 1; minor = 1 })
-
-never : {A : Type 0} → false ≡ true → A
-never e = absurd (false≢true e)
 
 digits-of : {a b : ℕ} (m n : ℕ) → DIGIT a → DIGIT b → a - 0x30 ≡ m → b - 0x30 ≡ n → (a ≡ 0x30 + m) × (b ≡ 0x30 + n)
 digits-of m n h k i j = (omega (arith, h .low, i), omega (arith, k .low, j))
@@ -66,10 +53,10 @@ code-too (grammar.status-code.class a b c) = grammar.status-code.class a b c
 code-too (grammar.status-code.any t a b c) = never t
 
 request-line-too : {l : RequestLine} → Known (l .version) → {w : List ℕ} → request-line strict w l → request-line default w l
-request-line-too k (grammar.request-line.line m t v) = grammar.request-line.line m (target-too t) (version-known k v)
+request-line-too k (grammar.request-line.line m d t e v) = grammar.request-line.line m d (target-too t) e (version-known k v)
 
 pub strict-request : {w : List ℕ} {l : RequestLine} {fs : List Field} → request-head strict w l fs → Known (l .version) → request-head default w l fs
-strict-request h k = head-as never never (λ v. request-line-too k) h
+strict-request h k = head-as lines (λ v. request-line-too k) h
 
 -- obs-reason: a reason that is plain text
 some-ascii : {w : List ℕ} → Some text w → Many ascii-text w → Some ascii-text w
@@ -81,12 +68,12 @@ reason-too p (grammar.reason-phrase.whole t k) = grammar.reason-phrase.ascii (so
 reason-too p (grammar.reason-phrase.emptied t k o l) = never t
 
 status-line-too : {l : StatusLine} → Known (l .version) → Many ascii-text (l .reason) → {w : List ℕ} → status-line strict w l → status-line default w l
-status-line-too k p (grammar.status-line.reason v c x) = grammar.status-line.reason (version-known k v) (code-too c) (reason-too p x)
-status-line-too k p (grammar.status-line.no-reason v c) = grammar.status-line.no-reason (version-known k v) (code-too c)
-status-line-too k p (grammar.status-line.code-ends t v c) = never t
+status-line-too k p (grammar.status-line.reason v d c e x n) = grammar.status-line.reason (version-known k v) d (code-too c) e (reason-too p x) never
+status-line-too k p (grammar.status-line.no-reason v d c e) = grammar.status-line.no-reason (version-known k v) d (code-too c) e
+status-line-too k p (grammar.status-line.code-ends t v d c) = never t
 
 pub strict-response : {w : List ℕ} {l : StatusLine} {fs : List Field} → response-head strict w l fs → Known (l .version) → Many ascii-text (l .reason) → response-head default w l fs
-strict-response h k p = head-as never never (λ v. status-line-too k p) h
+strict-response h k p = head-as lines (λ v. status-line-too k p) h
 
 -- and a reason with obs-text is given as empty
 pub record Obsolete (w : List ℕ) : Type 0 where
@@ -100,7 +87,7 @@ text-parts : (u v : List ℕ) (c : ℕ) → Many text (u ++ (c ∷ v)) → Many 
 text-parts [] v c (more x k) = (none, k)
 text-parts (b ∷ u) v c (more x k) = let m = text-parts u v c k in (more x (m .0), m .1)
 
-ascii-is-text : (b : ℕ) → ascii-text b → text b
+pub ascii-is-text : (b : ℕ) → ascii-text b → text b
 ascii-is-text b (grammar.ascii-text.white h) = bytes.text.white h
 ascii-is-text b (grammar.ascii-text.visible h) = bytes.text.field (bytes.visible h)
 
@@ -119,15 +106,15 @@ abbrev pub unreasoned : StatusLine → StatusLine
 unreasoned l = record { version = l .version; code = l .code; reason = [] }
 
 status-line-emptied : {l : StatusLine} → Known (l .version) → Obsolete (l .reason) → {w : List ℕ} → status-line strict w l → status-line default w (unreasoned l)
-status-line-emptied k o (grammar.status-line.reason n c x) = grammar.status-line.reason (version-known k n) (code-too c) (reason-emptied o x)
-status-line-emptied k o (grammar.status-line.no-reason n c) = grammar.status-line.no-reason (version-known k n) (code-too c)
-status-line-emptied k o (grammar.status-line.code-ends t n c) = never t
+status-line-emptied k o (grammar.status-line.reason n d c e x l) = grammar.status-line.reason (version-known k n) d (code-too c) e (reason-emptied o x) never
+status-line-emptied k o (grammar.status-line.no-reason n d c e) = grammar.status-line.no-reason (version-known k n) d (code-too c) e
+status-line-emptied k o (grammar.status-line.code-ends t n d c) = never t
 
 pub strict-response-emptied : {w : List ℕ} {l : StatusLine} {fs : List Field} → response-head strict w l fs → Known (l .version) → Obsolete (l .reason) → response-head default w (unreasoned l) fs
-strict-response-emptied (grammar.head.message a d b x) k o = grammar.head.message (empty-lines-as never never a) (status-line-emptied k o d) (line-end-as never b) (block-as never x)
+strict-response-emptied h k o = head-as lines (λ v. status-line-emptied k o) h
 
 pub strict-headers : {w : List ℕ} {fs : List Field} → header-block strict w fs → header-block default w fs
-strict-headers = block-as never
+strict-headers = block-as lines
 
 -- sixteen-digits: no more than sixteen digits stand at the start
 abbrev pub Few : List ℕ → Type 0

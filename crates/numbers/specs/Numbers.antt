@@ -23,7 +23,14 @@ use Rattle.chunks.specs.declared.ChunkSize.the-variants as sizes
 
 -- each setting has a bit
 abbrev pub settingsOf : ℕ → Settings
-settingsOf bits = record { «ascii_targets» = eqb ((bits / 128) % 2) 1 }
+settingsOf bits = record {
+  «ascii_targets» = eqb ((bits / 128) % 2) 1;
+  «spaces_in_request_line» = eqb ((bits / 4) % 2) 1;
+  «spaces_in_status_line» = eqb ((bits / 8) % 2) 1;
+  «space_before_first_name» = eqb ((bits / 16) % 2) 1;
+  «spaces_after_name» = eqb (bits % 2) 1;
+  «multiline_headers» = eqb ((bits / 2) % 2) 1;
+}
 
 -- the number of each error
 abbrev pub errorNumber : Error → ℕ

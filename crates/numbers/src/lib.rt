@@ -159,5 +159,10 @@ pub fn settings_of(bits: u32) -> Settings
 {
     Settings {
         ascii_targets: (bits / 128) % 2 == 1,
+        spaces_in_request_line: (bits / 4) % 2 == 1,
+        spaces_in_status_line: (bits / 8) % 2 == 1,
+        space_before_first_name: (bits / 16) % 2 == 1,
+        spaces_after_name: bits % 2 == 1,
+        multiline_headers: (bits / 2) % 2 == 1,
     }
 }

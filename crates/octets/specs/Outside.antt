@@ -30,6 +30,15 @@ pub colon-no-token : isToken 0x3A ≡ false
 unfolding isToken isDigit within among
 colon-no-token = refl
 
+pub tab-no-token : isToken 0x09 ≡ false
+unfolding isToken isDigit within among
+tab-no-token = refl
+
+-- no token byte is a blank
+pub token-no-blank : (b : ℕ) → isToken b ≡ true → isBlank b ≡ false
+unfolding isBlank among
+token-no-blank b t = rw (ne-eqb 0x20 b (λ e. differs isToken space-no-token t (sym e)), ne-eqb 0x09 b (λ e. differs isToken tab-no-token t (sym e)))
+
 pub space-not-visible : isVisible 0x20 ≡ false
 unfolding isVisible within
 space-not-visible = refl
@@ -49,6 +58,14 @@ lf-no-value = refl
 pub cr-no-blank : isBlank 0x0D ≡ false
 unfolding isBlank among
 cr-no-blank = refl
+
+pub lf-no-blank : isBlank 0x0A ≡ false
+unfolding isBlank among
+lf-no-blank = refl
+
+pub colon-no-blank : isBlank 0x3A ≡ false
+unfolding isBlank among
+colon-no-blank = refl
 
 pub semicolon-no-blank : isBlank 0x3B ≡ false
 unfolding isBlank among

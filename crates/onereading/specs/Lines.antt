@@ -3,25 +3,20 @@
 use Prim.Native.Nat.{ℕ}
 use mathlib.Core.Path.{refl, subst}
 use mathlib.Core.List.{List, _++_}
-use Rattle.reader.specs.Chain.{nothing}
+use Rattle.reader.specs.Seq.{first}
+use Rattle.reader.specs.Chain.{nothing, reads}
 use Rattle.reader.specs.Known.{knownOf}
-use Rattle.reader.specs.Later.{Later, later, and-later, ended-later, last-keeps, last-grows, chain-keeps, chain-grows}
+use Rattle.reader.specs.Later.{later, last-keeps, last-grows, chain-keeps, chain-grows}
 use Rattle.octets.specs.Class.{isToken}
 use Rattle.rules.specs.Rules.{Rules}
-use Rattle.parts.specs.declared.Error.the-variants.{NewLine, Status, Token, Version}
+use Rattle.parts.specs.declared.Error.the-variants.{NewLine, Token, Version}
 use Rattle.parts.specs.declared.Piece.{Piece}
 use Rattle.parts.specs.LineEnd.{begin, lineEndStep, lineEnd}
 use Rattle.parts.specs.EmptyLines.{start, emptyLinesStep}
 use Rattle.words.specs.Word.{wordStep}
 use Rattle.words.specs.Word as words
-use Rattle.words.specs.Target.{targetByte, targetStep, target}
-use Rattle.words.specs.Target as targets
-use Rattle.versions.specs.Version.{name, versionStep, version}
+use Rattle.versions.specs.Version.{name, versionStep}
 use Rattle.spaces.specs.Space.{spaceStep, space, behindCodeStep, behindCode}
-use Rattle.status.specs.Code.{codeStep, code}
-use Rattle.status.specs.Code as codes
-use Rattle.status.specs.Reason.{reasonStep, reason}
-use Rattle.status.specs.Reason as reasons
 use Rattle.startline.specs.declared.KnownPiece.{KnownPiece}
 use Rattle.startline.specs.declared.KnownPiece.the-variants as pieces
 use Rattle.startline.specs.declared.KnownNumber.{KnownNumber}
@@ -81,20 +76,20 @@ module _ (r : Rules) where
     keeps-end k q = last-keeps SameRequest k (λ _. k) (request-refl k) (λ _. request-refl k) (lineEnd r NewLine z q)
 
     keeps-version : (m t : Piece) (q : ℕ) → SameRequest (K₂ m t) (knownOf (requests.fromVersion r z (K₂ m t) q))
-    keeps-version m t q = chain-keeps SameRequest (K₂ m t) (requests.withVersion (K₂ m t)) request-refl request-trans (λ v. record { method = refl; target = refl; version = tt }) (requests.fromEnd r z) (λ v i. keeps-end (requests.withVersion (K₂ m t) v) i) (version z q)
+    keeps-version m t q = chain-keeps SameRequest (K₂ m t) (requests.withVersion (K₂ m t)) request-refl request-trans (λ v. record { method = refl; target = refl; version = tt }) (requests.fromEnd r z) (λ v i. keeps-end (requests.withVersion (K₂ m t) v) i) (reads (requests.gapVersion r) (first tt) z q)
 
     keeps-target : (m : Piece) (q : ℕ) → SameRequest (K₁ m) (knownOf (requests.fromTarget r z (K₁ m) q))
-    keeps-target m q = chain-keeps SameRequest (K₁ m) (requests.withTarget (K₁ m)) request-refl request-trans (λ t. record { method = refl; target = tt; version = tt }) (requests.fromVersion r z) (λ t i. keeps-version m t i) (target (targetByte (r .any-target)) z q)
+    keeps-target m q = chain-keeps SameRequest (K₁ m) (requests.withTarget (K₁ m)) request-refl request-trans (λ t. record { method = refl; target = tt; version = tt }) (requests.fromVersion r z) (λ t i. keeps-version m t i) (reads (requests.gapTarget r) (first tt) z q)
 
   module _ (xs ys : List ℕ) where
     grows-end : (k : RequestLine) (q : ℕ) → SameRequest (knownOf (requests.fromEnd r xs k q)) (knownOf (requests.fromEnd r (xs ++ ys) k q))
     grows-end k q = last-grows SameRequest k (λ _. k) request-refl (λ _. request-refl k) (later nothing (lineEndStep r NewLine) begin xs ys q)
 
     grows-version : (m t : Piece) (q : ℕ) → SameRequest (knownOf (requests.fromVersion r xs (K₂ m t) q)) (knownOf (requests.fromVersion r (xs ++ ys) (K₂ m t) q))
-    grows-version m t q = chain-grows SameRequest (K₂ m t) (requests.withVersion (K₂ m t)) request-refl (requests.fromEnd r xs) (requests.fromEnd r (xs ++ ys)) (λ v i. grows-end (requests.withVersion (K₂ m t) v) i) (later nothing versionStep name xs ys q) (keeps-version (xs ++ ys) m t q)
+    grows-version m t q = chain-grows SameRequest (K₂ m t) (requests.withVersion (K₂ m t)) request-refl (requests.fromEnd r xs) (requests.fromEnd r (xs ++ ys)) (λ v i. grows-end (requests.withVersion (K₂ m t) v) i) (later nothing (requests.gapVersion r) (first tt) xs ys q) (keeps-version (xs ++ ys) m t q)
 
     grows-target : (m : Piece) (q : ℕ) → SameRequest (knownOf (requests.fromTarget r xs (K₁ m) q)) (knownOf (requests.fromTarget r (xs ++ ys) (K₁ m) q))
-    grows-target m q = chain-grows SameRequest (K₁ m) (requests.withTarget (K₁ m)) request-refl (requests.fromVersion r xs) (requests.fromVersion r (xs ++ ys)) (λ t i. grows-version m t i) (later nothing (targetStep (targetByte (r .any-target))) targets.none xs ys q) (keeps-target (xs ++ ys) m q)
+    grows-target m q = chain-grows SameRequest (K₁ m) (requests.withTarget (K₁ m)) request-refl (requests.fromVersion r xs) (requests.fromVersion r (xs ++ ys)) (λ t i. grows-version m t i) (later nothing (requests.gapTarget r) (first tt) xs ys q) (keeps-target (xs ++ ys) m q)
 
     unread-keeps : (l : RequestLine) → SameRequest requests.unread l
     unread-keeps l = record { method = tt; target = tt; version = tt }
@@ -117,29 +112,26 @@ module _ (r : Rules) where
 
   module _ (z : List ℕ) where
     keeps-reason : (v c q : ℕ) → SameStatus (V₂ v c) (knownOf (statuses.fromReason r z (V₂ v c) q))
-    keeps-reason v c q = last-keeps SameStatus (V₂ v c) (statuses.withReason (V₂ v c)) (status-refl (V₂ v c)) (λ w. record { version = refl; code = refl; reason = tt }) (statuses.reasonEnd r z q)
+    keeps-reason v c q = last-keeps SameStatus (V₂ v c) (statuses.withReason (V₂ v c)) (status-refl (V₂ v c)) (λ w. record { version = refl; code = refl; reason = tt }) (reads (statuses.gapReason r) (first tt) z q)
 
     keeps-behind : (v c q : ℕ) → SameStatus (V₂ v c) (knownOf (statuses.fromBehind r z (V₂ v c) q))
     keeps-behind v c q = chain-keeps SameStatus (V₂ v c) (λ _. V₂ v c) status-refl status-trans (λ _. status-refl (V₂ v c)) (statuses.fromReason r z) (λ x i. keeps-reason v c i) (behindCode r z q)
 
     keeps-code : (v q : ℕ) → SameStatus (V₁ v) (knownOf (statuses.fromCode r z (V₁ v) q))
-    keeps-code v q = chain-keeps SameStatus (V₁ v) (statuses.withCode (V₁ v)) status-refl status-trans (λ c. record { version = refl; code = tt; reason = tt }) (statuses.fromBehind r z) (λ c i. keeps-behind v c i) (code z q)
+    keeps-code v q = chain-keeps SameStatus (V₁ v) (statuses.withCode (V₁ v)) status-refl status-trans (λ c. record { version = refl; code = tt; reason = tt }) (statuses.fromBehind r z) (λ c i. keeps-behind v c i) (reads (statuses.gapCode r) (first tt) z q)
 
     keeps-space : (v q : ℕ) → SameStatus (V₁ v) (knownOf (statuses.fromSpace r z (V₁ v) q))
     keeps-space v q = chain-keeps SameStatus (V₁ v) (λ _. V₁ v) status-refl status-trans (λ _. status-refl (V₁ v)) (statuses.fromCode r z) (λ x i. keeps-code v i) (space Version z q)
 
   module _ (xs ys : List ℕ) where
-    reason-later : (q : ℕ) → Later (statuses.reasonEnd r xs q) (statuses.reasonEnd r (xs ++ ys) q)
-    reason-later q = and-later (later nothing reasonStep reasons.none xs ys q) (λ w i. ended-later w (later nothing (lineEndStep r Status) begin xs ys i))
-
     grows-reason : (v c q : ℕ) → SameStatus (knownOf (statuses.fromReason r xs (V₂ v c) q)) (knownOf (statuses.fromReason r (xs ++ ys) (V₂ v c) q))
-    grows-reason v c q = last-grows SameStatus (V₂ v c) (statuses.withReason (V₂ v c)) status-refl (λ w. record { version = refl; code = refl; reason = tt }) (reason-later q)
+    grows-reason v c q = last-grows SameStatus (V₂ v c) (statuses.withReason (V₂ v c)) status-refl (λ w. record { version = refl; code = refl; reason = tt }) (later nothing (statuses.gapReason r) (first tt) xs ys q)
 
     grows-behind : (v c q : ℕ) → SameStatus (knownOf (statuses.fromBehind r xs (V₂ v c) q)) (knownOf (statuses.fromBehind r (xs ++ ys) (V₂ v c) q))
     grows-behind v c q = chain-grows SameStatus (V₂ v c) (λ _. V₂ v c) status-refl (statuses.fromReason r xs) (statuses.fromReason r (xs ++ ys)) (λ x i. grows-reason v c i) (later nothing (behindCodeStep r) tt xs ys q) (keeps-behind (xs ++ ys) v c q)
 
     grows-code : (v q : ℕ) → SameStatus (knownOf (statuses.fromCode r xs (V₁ v) q)) (knownOf (statuses.fromCode r (xs ++ ys) (V₁ v) q))
-    grows-code v q = chain-grows SameStatus (V₁ v) (statuses.withCode (V₁ v)) status-refl (statuses.fromBehind r xs) (statuses.fromBehind r (xs ++ ys)) (λ c i. grows-behind v c i) (later nothing codeStep codes.none xs ys q) (keeps-code (xs ++ ys) v q)
+    grows-code v q = chain-grows SameStatus (V₁ v) (statuses.withCode (V₁ v)) status-refl (statuses.fromBehind r xs) (statuses.fromBehind r (xs ++ ys)) (λ c i. grows-behind v c i) (later nothing (statuses.gapCode r) (first tt) xs ys q) (keeps-code (xs ++ ys) v q)
 
     grows-space : (v q : ℕ) → SameStatus (knownOf (statuses.fromSpace r xs (V₁ v) q)) (knownOf (statuses.fromSpace r (xs ++ ys) (V₁ v) q))
     grows-space v q = chain-grows SameStatus (V₁ v) (λ _. V₁ v) status-refl (statuses.fromCode r xs) (statuses.fromCode r (xs ++ ys)) (λ x i. grows-code v i) (later nothing (spaceStep Version) tt xs ys q) (keeps-space (xs ++ ys) v q)

@@ -11,6 +11,7 @@ use Rattle.reader.specs.Machine.{Step, runAt}
 use Rattle.reader.specs.Seq.{first}
 use Rattle.reader.specs.Answer.{Answer, got, short, bad, answer, verdict, retold, rounds}
 use Rattle.reader.specs.Tests.{split}
+use Rattle.gaps.specs.Gap.{gapEnd, end-skipped}
 use Rattle.rules.specs.Rules.{Rules, default}
 use Rattle.parts.specs.declared.Error.the-variants.{TooManyHeaders}
 use Rattle.parts.specs.declared.Fault.{Fault}
@@ -26,7 +27,7 @@ use Rattle.requestline.specs.declared.RequestLine.{RequestLine}
 use Rattle.requestline.specs.RequestLine as requests
 use Rattle.statusline.specs.declared.StatusLine.{StatusLine}
 use Rattle.statusline.specs.StatusLine as statuses
-use Rattle.heads.specs.Head.{Heads, over, headed, head-parts, given, Told}
+use Rattle.heads.specs.Head.{Heads, blanksBefore, section, section-block, over, headed, head-parts, given, Told}
 use Rattle.heads.specs.Head as heads
 use Rattle.heads.specs.Calls.{request, response}
 use Rattle.agreement.specs.Fields.{line-within}
@@ -70,6 +71,11 @@ module _ (r : Rules) (n n′ : ℕ) (h : n ≤ n′) (xs : List ℕ) where
   block-room : (p : ℕ) → Roomier (block r n [] xs p) (block r n′ [] xs p)
   block-room p = room-by (length xs) [] p (omega arith)
 
+  section-room : (p : ℕ) → Roomier (section r n xs p) (section r n′ xs p)
+  section-room p =
+      let g = end-skipped (blanksBefore r) xs p in
+      subst (λ y. Roomier y (section r n′ xs p)) (sym (section-block r n g)) (subst (Roomier (block r n [] xs (gapEnd (blanksBefore r) xs p))) (sym (section-block r n′ g)) (block-room (gapEnd (blanksBefore r) xs p)))
+
 module _ {K : Type 0} where
   -- the same of heads
   data Wider : Heads K → Heads K → Type 0 where
@@ -97,8 +103,8 @@ module _ (r : Rules) (n n′ : ℕ) (h : n ≤ n′) {K S : Type 0} (m : Step S 
   head-wider : (xs : List ℕ) → Wider (heads.head r n m known s xs) (heads.head r n′ m known s xs)
   head-wider xs =
       subst (λ y. Wider y (heads.head r n′ m known s xs)) (sym (head-parts r n m known s xs))
-      (subst (Wider (headed (answer known (runAt m s xs 0)) (λ k q. over k (block r n [] xs q)))) (sym (head-parts r n′ m known s xs))
-      (headed-wider (answer known (runAt m s xs 0)) (λ k q. over-wider k (block-room r n n′ h xs q))))
+      (subst (Wider (headed (answer known (runAt m s xs 0)) (λ k q. over k (section r n xs q)))) (sym (head-parts r n′ m known s xs))
+      (headed-wider (answer known (runAt m s xs 0)) (λ k q. over-wider k (section-room r n n′ h xs q))))
 
 module _ (r : Rules) (n n′ : ℕ) (h : n ≤ n′) (s : List ℕ) {old old′ : List ℕ} {end end′ : Passed} {count count′ : ℕ} {new new′ : List ℕ} where
   pub request-roomier : {line line′ : RequestLine} → Told (request r n s) end line count old new → Told (request r n′ s) end′ line′ count′ old′ new′ → MoreSlots end end′ line line′ count count′ old′ new new′

@@ -76,10 +76,10 @@ virtual (got k q) old = record { end = At q; line = k .0; count = length (k .1);
 virtual (short k) old = record { end = More; line = k .0; count = length (k .1); new = filled (k .1) old; told = record { answer = refl; count-is = refl; slots = refl } }
 virtual (bad x) old = record { end = Bad (x .0); line = x .1 .0; count = length (x .1 .1); new = filled (x .1 .1) old; told = record { answer = refl; count-is = refl; slots = refl } }
 
-module _ {L K : Type 0} {Head : List ℕ → L → List Field → Type 0} {Says : List ℕ → K → L → Type 0} {In : List ℕ → K → Type 0} {Same : K → K → Type 0} (Agrees : List ℕ → K → L → Type 0)
+module _ {L K : Type 0} {Head : List ℕ → L → List Field → Type 0} {Says : List ℕ → K → L → Type 0} {r : Rules} {In : List ℕ → K → Type 0} {Same : K → K → Type 0} (Agrees : List ℕ → K → L → Type 0)
     (agrees : (s u : List ℕ) (k k′ : K) (l : L) → In s k → Same k k′ → Says (s ++ u) k′ l → Agrees s k l) where
   -- a call on s, and one on s with u behind it
-  module _ (s u : List ℕ) {old : List ℕ} {end end′ : Passed} {line line′ : K} {count count′ : ℕ} {new new′ : List ℕ} (P : HeadPromise Head Says In s old end line count new) (Q : HeadPromise Head Says In (s ++ u) old end′ line′ count′ new′) (S : HeadStays Same end end′ line line′ count count′ old new new′) where
+  module _ (s u : List ℕ) {old : List ℕ} {end end′ : Passed} {line line′ : K} {count count′ : ℕ} {new new′ : List ℕ} (P : HeadPromise r Head Says In s old end line count new) (Q : HeadPromise r Head Says In (s ++ u) old end′ line′ count′ new′) (S : HeadStays Same end end′ line line′ count count′ old new new′) where
     shown : (fs : List Field) (l : L) → Says (s ++ u) line′ l → (rest : List Field) → fieldsIn (s ++ u) count′ new′ ++ rest ≡ fs → Agrees s line l × ((more : List Field) × (fs ≡ fieldsIn s count new ++ more))
     shown fs l h rest e =
         let f = first-fields (s ++ u) count count′ new′ (S .headers .0) in

@@ -3,6 +3,7 @@
 use Prim.Native.Nat.{ℕ, _+_, _*_, _≤_, _<_}
 use mathlib.Core.Path.{_≡_}
 use mathlib.Core.List.{List, _++_}
+use mathlib.Core.Bool.{false}
 use lib.ListN.{length, take, drop}
 use Rattle.rules.specs.Rules.{Rules, default}
 use Rattle.grammar.specs.Fields.{Field}
@@ -70,8 +71,9 @@ pub record SaysWhere {K : Type 0} (r : Rules) (s : List ℕ) (x : Fault) (line :
   pub before : (k : ℕ) → k ≤ x .position → z ≡ take k s → end′ ≡ More
   -- any error but TooManyHeaders: where z has the byte at it too, and any bytes u behind that, it ends in this error, with the same fields, count and slots
   pub there : (x .error ≡ TooManyHeaders → ⊥) → (u : List ℕ) → z ≡ take (x .position + 1) s ++ u → (end′ ≡ Bad x) × (line′ ≡ line) × (count′ ≡ count) × (new′ ≡ take (count * 4) new ++ drop (count * 4) old′)
-  -- TooManyHeaders: where z is the bytes before the header that had no slot, that call has told the same fields, count and slots
-  pub full : x .error ≡ TooManyHeaders → z ≡ take (x .position) s → (line′ ≡ line) × (count′ ≡ count) × (new′ ≡ take (count * 4) new ++ drop (count * 4) old′)
+  -- TooManyHeaders: where z is the bytes before the header that had no slot, or these and its first, that call has told the same fields, count
+  -- and slots; the first does not count where values may go on over several lines, since without it the header before may not be over
+  pub full : x .error ≡ TooManyHeaders → (k : ℕ) → k ≤ 1 → (k ≡ 0 → r .multiline-headers ≡ false) → z ≡ take (x .position + k) s → (line′ ≡ line) × (count′ ≡ count) × (new′ ≡ take (count * 4) new ++ drop (count * 4) old′)
   -- and where z has an empty line e in place of that header, it is complete with them
   pub begins : x .error ≡ TooManyHeaders → (e : List ℕ) → grammar.line-end r e → z ≡ take (x .position) s ++ e → (end′ ≡ At (x .position + length e)) × (line′ ≡ line) × (count′ ≡ count) × (new′ ≡ take (count * 4) new ++ drop (count * 4) old′)
 

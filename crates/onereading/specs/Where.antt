@@ -3,10 +3,12 @@
 use Prim.Native.Nat.{ℕ, _+_, _*_, _/_}
 use mathlib.Core.Path.{_≡_, refl, sym, ap, subst, _∙_}
 use mathlib.Core.List.{List, [], _++_}
-use lib.ListN.{length, take, drop}
+use native.Mathlib.Omega.{arith}
+use lib.ListN.{length, take, drop, length-append}
 use Rattle.reader.specs.Answer.{got, short, bad}
 use Rattle.reader.specs.Known.{knownOf}
 use Rattle.rules.specs.Rules.{Rules, default}
+use Rattle.lengths.specs.Lengths.{ends-long, field-long}
 use Rattle.parts.specs.declared.Fault.{Fault}
 use Rattle.parts.specs.declared.Passed.{Passed}
 use Rattle.parts.specs.declared.Passed.the-variants.{More, Bad}
@@ -23,7 +25,6 @@ use Rattle.chunks.specs.declared.ChunkSize.{ChunkSize}
 use Rattle.chunks.specs.declared.ChunkSize.the-variants as sizes
 use Rattle.chunks.specs.Chunk.{chunk, sizeOf}
 use Rattle.agreement.specs.Kept.{told-got, told-line}
-use Rattle.agreement.specs.Decided.{first-waits}
 use Rattle.agreement.specs.Promises.{Waits, FaultPromise}
 use Rattle.agreement.specs.Calls.{headersOf, alone-told, request-fault, response-fault, headers-fault}
 use Rattle.agreement.specs.Chunk.{chunk-fault-promise}
@@ -57,9 +58,9 @@ module _ {K : Type 0} {r : Rules} {n : ℕ} {read : List ℕ → Heads K} {s : L
       record {
         before = λ k l e. waited (subst (λ y. Waits (read y)) (sym e) (A .before k l));
         there = λ o u e. told-same T (subst (λ a. Told a end′ line′ count′ old′ new′) (ap read e ∙ A .there o u) U);
-        full = λ o e.
+        full = λ o k l m e.
             let O = A .too-many o in
-            knows (O .known) (O .headers) (ap knownOf (O .told)) (ap knownOf (ap read e ∙ first-waits O));
+            knows (O .known) (O .headers) (ap knownOf (O .told)) (ap knownOf (ap read e ∙ O .waits k m (omega (arith, l, length-append (O .line) (O .end), field-long (O .is-line), ends-long (O .is-end)))));
         begins = λ o w d e.
             let O = A .too-many o in
             let b : read z ≡ got (O .known, O .headers) (x .position + length w) = ap read e ∙ O .begins w d in

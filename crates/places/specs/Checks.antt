@@ -18,7 +18,8 @@ use Rattle.startline.specs.declared.KnownNumber.the-variants as numbers
 use Rattle.heads.specs.declared.RequestHead.{RequestHead}
 use Rattle.heads.specs.declared.ResponseHead.{ResponseHead}
 use Rattle.blocks.specs.declared.Block.{Block}
-use Rattle.agreement.specs.Known.{SlotsInside}
+use Rattle.agreement.specs.Known.{fieldsIn, SlotsInside}
+use Rattle.plain.specs.Plain.{OneLine}
 use Rattle.places.specs.Lies.{Complete, Lies, AtMost, SlotsLie, RequestLies, ResponseLies, BlockLies}
 use Rattle.places.specs.Slots.{one-more, SlotLies, inside-first, inside-rest, inside-more}
 
@@ -34,7 +35,7 @@ pub decides-no : {P : Type 0} → (P → ⊥) → Decides P false
 decides-no n = record { yes = λ t. absurd (false≢true t); no = λ t. n }
 
 -- Q is not so without P, which is not
-without : {P Q : Type 0} {b : Bool} → (Q → P) → Decides P b → b ≡ false → Decides Q false
+pub without : {P Q : Type 0} {b : Bool} → (Q → P) → Decides P b → b ≡ false → Decides Q false
 without f d t = decides-no (λ q. d .no t (f q))
 
 -- the same in other words
@@ -147,6 +148,9 @@ module _ {s slots : List ℕ} {count k : ℕ} (c : Checked s slots count k) wher
       let z : c .left ≡ 0 = omega (arith, h, c .all) in
       decides-yes (record { room = omega (arith, r); inside = c .on (subst (λ m. SlotsInside (length s) m (drop (k * 4) slots)) (sym z) tt) })
 
+pub slots-lie : {s slots : List ℕ} {count : ℕ} {b : Bool} → Decides (SlotsLie s count slots) b → b ≡ true → SlotsLie s count slots
+slots-lie d t = d .yes t
+
 -- the parts of a head, looked at one after another
 module _ {s slots : List ℕ} {b : Bool} where
   pub request-parts : {head : RequestHead} → Decides (Both (Complete (head .end)) (Both (Lies s (head .line .method)) (Both (Lies s (head .line .target)) (Both (AtMost 9 (head .line .version)) (SlotsLie s (head .count) slots))))) b → Decides (RequestLies s head slots) b
@@ -155,15 +159,15 @@ module _ {s slots : List ℕ} {b : Bool} where
       (λ y. record { complete = y .one; method = y .rest .one; target = y .rest .rest .one; version = y .rest .rest .rest .one; headers = y .rest .rest .rest .rest })
       (λ y. record { one = y .complete; rest = record { one = y .method; rest = record { one = y .target; rest = record { one = y .version; rest = y .headers } } } })
 
-  pub response-parts : {head : ResponseHead} → Decides (Both (Complete (head .end)) (Both (AtMost 9 (head .line .version)) (Both (AtMost 999 (head .line .code)) (Both (Lies s (head .line .reason)) (SlotsLie s (head .count) slots))))) b → Decides (ResponseLies s head slots) b
+  pub response-parts : {head : ResponseHead} → Decides (Both (Complete (head .end)) (Both (AtMost 9 (head .line .version)) (Both (AtMost 999 (head .line .code)) (Both (Lies s (head .line .reason)) (Both (SlotsLie s (head .count) slots) (OneLine (fieldsIn s (head .count) slots))))))) b → Decides (ResponseLies s head slots) b
   response-parts =
       decides-as
-      (λ y. record { complete = y .one; version = y .rest .one; code = y .rest .rest .one; reason = y .rest .rest .rest .one; headers = y .rest .rest .rest .rest })
-      (λ y. record { one = y .complete; rest = record { one = y .version; rest = record { one = y .code; rest = record { one = y .reason; rest = y .headers } } } })
+      (λ y. record { complete = y .one; version = y .rest .one; code = y .rest .rest .one; reason = y .rest .rest .rest .one; headers = y .rest .rest .rest .rest .one; lines = y .rest .rest .rest .rest .rest })
+      (λ y. record { one = y .complete; rest = record { one = y .version; rest = record { one = y .code; rest = record { one = y .reason; rest = record { one = y .headers; rest = y .lines } } } } })
 
   pub block-parts : {block : Block} → Decides (Both (Complete (block .end)) (SlotsLie s (block .count) slots)) b → Decides (BlockLies s block slots) b
   block-parts = decides-as (λ y. record { complete = y .one; headers = y .rest }) (λ y. record { one = y .complete; rest = y .headers })
 
 pub ruleset checks = (not-true, not-false, lies-within, starts-behind, ends-behind, complete-at, complete-more, complete-bad, piece-known, piece-unknown, number-known, number-great, number-unknown, few-slots, checked-none, slot-out, checked-more, checked-all)
 
-pub ruleset lies = (not-true, not-false, slot-parts, request-parts, response-parts, block-parts, first-not, first-so)
+pub ruleset lies = (not-true, not-false, slot-parts, slots-lie, request-parts, response-parts, block-parts, first-not, first-so)

@@ -1,3 +1,4 @@
 pub mod Lies
 pub mod Slots
 pub mod Checks
+pub mod Lines

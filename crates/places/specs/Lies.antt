@@ -18,7 +18,8 @@ use Rattle.heads.specs.declared.RequestHead.{RequestHead}
 use Rattle.heads.specs.declared.ResponseHead.{ResponseHead}
 use Rattle.blocks.specs.declared.Block.{Block}
 use Rattle.agreement.specs.Places.{held}
-use Rattle.agreement.specs.Known.{SlotsInside}
+use Rattle.agreement.specs.Known.{fieldsIn, SlotsInside}
+use Rattle.plain.specs.Plain.{OneLine}
 
 -- what is told: of a piece its bytes, of a version the minor number, the major one being 1
 abbrev pub bytesOf : List ℕ → KnownPiece → List ℕ
@@ -59,13 +60,14 @@ pub record RequestLies (s : List ℕ) (head : RequestHead) (slots : List ℕ) : 
   pub version : AtMost 9 (head .line .version)
   pub headers : SlotsLie s (head .count) slots
 
--- all of a response was read and lies in the input; the code has three digits
+-- all of a response was read and lies in the input; the code has three digits, and each value stands on one line
 pub record ResponseLies (s : List ℕ) (head : ResponseHead) (slots : List ℕ) : Type 0 where
   pub complete : Complete (head .end)
   pub version : AtMost 9 (head .line .version)
   pub code : AtMost 999 (head .line .code)
   pub reason : Lies s (head .line .reason)
   pub headers : SlotsLie s (head .count) slots
+  pub lines : OneLine (fieldsIn s (head .count) slots)
 
 -- and of headers alone
 pub record BlockLies (s : List ℕ) (block : Block) (slots : List ℕ) : Type 0 where

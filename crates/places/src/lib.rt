@@ -1,7 +1,9 @@
-// Whether what was read is complete and lies in the input.
+// Whether what was read is complete and lies in the input, and of a response, whose values may go on over several lines, that none does.
 ghost use Prim.Native.Nat.{_+_, _≤_};
-ghost use lib.ListN.{length};
-ghost use Rattle.places.specs.Checks.{Decides};
+ghost use lib.ListN.{length, take, drop};
+ghost use Rattle.plain.specs.Plain.{one-line, OneLine};
+ghost use Rattle.agreement.specs.Known.{fieldsIn};
+ghost use Rattle.places.specs.Checks.{Decides, Both};
 ghost use Rattle.places.specs.Slots.{SlotLies};
 ghost use Rattle.places.specs.Lies.{Complete, Lies, AtMost, SlotsLie, RequestLies, ResponseLies, BlockLies};
 use blocks::Block;
@@ -84,6 +86,47 @@ fn slots(s: &[u8], slots: &[usize], count: usize) -> bool
     true
 }
 
+// Whether no byte of a value ends a line.
+fn value_on_one_line(s: &[u8], offset: usize, size: usize) -> bool
+    requires { ⌜ offset + size ≤ length (now s) ⌝ }
+    ensures { λ r. ⌜ Decides (one-line (take size (drop offset (now (s .entry))))) r ⌝ }
+{
+    let mut k = 0;
+    while k < size {
+        if s[offset + k] == 10 {
+            return false;
+        }
+        k += 1;
+    }
+    true
+}
+
+// Whether the values of the first `count` headers stand on one line each.
+fn one_line(s: &[u8], slots: &[usize], count: usize) -> bool
+    requires { ⌜ SlotsLie (now s) count (now slots) ⌝ }
+    ensures { λ r. ⌜ Decides (OneLine (fieldsIn (now (s .entry)) count (now (slots .entry)))) r ⌝ }
+{
+    let mut k = 0;
+    while k < count {
+        let i = k * 4;
+        if !value_on_one_line(s, slots[i + 2], slots[i + 3]) {
+            return false;
+        }
+        k += 1;
+    }
+    true
+}
+
+// The first `count` headers, with values on one line each.
+fn slots_on_one_line(s: &[u8], all: &[usize], count: usize) -> bool
+    ensures { λ r. ⌜ Decides (Both (SlotsLie (now (s .entry)) count (now (all .entry))) (OneLine (fieldsIn (now (s .entry)) count (now (all .entry))))) r ⌝ }
+{
+    if !slots(s, all, count) {
+        return false;
+    }
+    one_line(s, all, count)
+}
+
 pub fn request(s: &[u8], head: RequestHead, all: &[usize]) -> bool
     ensures { λ r. ⌜ Decides (RequestLies (now (s .entry)) head (now (all .entry))) r ⌝ }
 {
@@ -127,7 +170,7 @@ pub fn response(s: &[u8], head: ResponseHead, all: &[usize]) -> bool
     if !piece(s, reason) {
         return false;
     }
-    slots(s, all, head.count)
+    slots_on_one_line(s, all, head.count)
 }
 
 pub fn block(s: &[u8], block: Block, all: &[usize]) -> bool

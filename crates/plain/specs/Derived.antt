@@ -1,4 +1,5 @@
--- The plain form of a head is a head under the same rules, under default, and under strict where its parts are, with the same fields.
+-- The plain form of a head whose values stand on one line each is a head under the same rules, under default, and under strict where its
+-- parts are, with the same fields.
 -- Assumes nothing.
 use Prim.Native.Nat.{ℕ, _+_, _-_, _*_, _/_, _%_}
 use native.Mathlib.Omega.{arith}
@@ -8,18 +9,23 @@ use mathlib.Core.Bool.{true, false, false≢true}
 use Rattle.octets.specs.Grammar.{Range, DIGIT, text}
 use Rattle.octets.specs.Grammar as bytes
 use Rattle.rules.specs.Rules.{Rules, strict, default}
-use Rattle.grammar.specs.Rows.{Some, none, more}
+use Rattle.grammar.specs.Rows.{Some}
 use Rattle.grammar.specs.Fields.{Field}
-use Rattle.grammar.specs.Message.{space, colon, CRLF, crlf, Version, HTTP-name, HTTP-version, one-zero, one-one, request-target, RequestLine, status-code, reason-phrase, StatusLine, status-line, header-block, request-head, response-head}
+use Rattle.grammar.specs.Message.{space, colon, CRLF, crlf, Version, HTTP-name, HTTP-version, one-zero, one-one, request-target, RequestLine, status-code, reason-phrase, StatusLine, no-space-left, status-line, header-block, request-head, response-head}
 use Rattle.grammar.specs.Message as grammar
-use Rattle.plain.specs.Plain.{plain-version, plain-code, plain-fields, plain-request, plain-response}
+use Rattle.plain.specs.Plain.{OneLine, plain-version, plain-code, plain-fields, plain-request, plain-response}
+use Rattle.plain.specs.OneLine.{one-line-value}
 
--- a block, whatever its line ends and blanks were
-pub plain-block : {r s : Rules} {w : List ℕ} {fs : List Field} → header-block r w fs → header-block s (plain-fields fs) fs
-plain-block (grammar.header-block.end e) = grammar.header-block.end crlf
-plain-block {s = s} (grammar.header-block.field {fs = fs} (grammar.field-line.line {n = n} {v = v} h o k t) e b) =
-    subst (λ y. header-block s (y ++ CRLF ++ plain-fields fs) (record { name = n; value = v } ∷ fs)) (append-nil (n ++ colon ++ space ++ v))
-    (grammar.header-block.field (grammar.field-line.line h (more (bytes.blank.space refl) none) k none) crlf (plain-block b))
+-- a block whose values stand on one line each, whatever its line ends and blanks were
+pub plain-block : {r s : Rules} {w : List ℕ} {fs : List Field} → header-block r w fs → OneLine fs → header-block s (plain-fields fs) fs
+plain-block (grammar.header-block.end e) u = grammar.header-block.end crlf
+plain-block {s = s} (grammar.header-block.field {fs = fs} (grammar.field-line.line {n = n} {v = v} h g o k t) e b) u =
+    subst (λ y. header-block s (y ++ CRLF ++ plain-fields fs) (record { name = n; value = v } ∷ fs)) (append-nil (n ++ [] ++ colon ++ space ++ v) ∙ ap (λ y. y ++ colon ++ space ++ v) (append-nil n))
+    (grammar.header-block.field (grammar.field-line.line h grammar.behind-name.nothing (grammar.around-value.more (bytes.blank.space refl) grammar.around-value.none) (grammar.value-lines.one (one-line-value k (u .0))) grammar.around-value.none) crlf (plain-block b (u .1)))
+
+-- a start line, CR LF and a block
+plain-head : {s : Rules} {L : Type 0} {A : List ℕ → L → Type 0} (w : List ℕ) {l : L} {b : List ℕ} {fs : List Field} → A w l → header-block s b fs → grammar.head s A (w ++ CRLF ++ b) l fs
+plain-head {s} {A = A} w {l = l} {b = b} {fs = fs} h k = subst (λ y. grammar.head s A (y ++ b) l fs) (append-nil (w ++ CRLF)) (grammar.head.message grammar.empty-lines.none h crlf grammar.before-first-name.nothing k)
 
 digit-again : {a : ℕ} → DIGIT a → 0x30 + (a - 0x30) ≡ a
 digit-again h = omega (arith, h .low)
@@ -50,17 +56,17 @@ target-default (grammar.request-target.visible h) = grammar.request-target.visib
 target-default (grammar.request-target.any t h u) = grammar.request-target.any refl h u
 
 -- from any rules to any others that take the target and the version
-request-under : {r s : Rules} {w : List ℕ} {l : RequestLine} {fs : List Field} → request-head r w l fs → (request-target r (l .target) → request-target s (l .target)) → ((v : List ℕ) → HTTP-version r v (l .version) → HTTP-version s (plain-version (l .version)) (l .version)) → request-head s (plain-request l fs) l fs
-request-under (grammar.head.message e (grammar.request-line.line {v = w} m t v) c b) f g = grammar.head.message grammar.empty-lines.none (grammar.request-line.line m (f t) (g w v)) crlf (plain-block b)
+request-under : {r s : Rules} {w : List ℕ} {l : RequestLine} {fs : List Field} → request-head r w l fs → OneLine fs → (request-target r (l .target) → request-target s (l .target)) → ((v : List ℕ) → HTTP-version r v (l .version) → HTTP-version s (plain-version (l .version)) (l .version)) → request-head s (plain-request l fs) l fs
+request-under (grammar.head.message e (grammar.request-line.line {m = a} {t = d} {v = w} {n = n} m x t y v) c s b) u f g = plain-head (a ++ space ++ d ++ space ++ plain-version n) (grammar.request-line.line m grammar.delimiter.one (f t) grammar.delimiter.one (g w v)) (plain-block b u)
 
-module _ {r : Rules} {w : List ℕ} {l : RequestLine} {fs : List Field} where
+module _ {r : Rules} {w : List ℕ} {l : RequestLine} {fs : List Field} (u : OneLine fs) where
   -- under the rules of the head itself, whatever they are
   pub plain-request-own : request-head r w l fs → request-head r (plain-request l fs) l fs
-  plain-request-own h = request-under h (λ t. t) (λ v. version-plain)
+  plain-request-own h = request-under h u (λ t. t) (λ v. version-plain)
 
   -- under any that take its target, if the version is 1.0 or 1.1
   pub plain-request-under : {s : Rules} → r .known-versions ≡ true → (request-target r (l .target) → request-target s (l .target)) → request-head r w l fs → request-head s (plain-request l fs) l fs
-  plain-request-under k f h = request-under h f (λ v. version-known k)
+  plain-request-under k f h = request-under h u f (λ v. version-known k)
 
   -- under default, if the version is 1.0 or 1.1
   pub plain-request-derived : r .known-versions ≡ true → request-head r w l fs → request-head default (plain-request l fs) l fs
@@ -68,7 +74,7 @@ module _ {r : Rules} {w : List ℕ} {l : RequestLine} {fs : List Field} where
 
   -- under strict, if the target is
   pub plain-request-strict : request-head r w l fs → request-target strict (l .target) → request-head strict (plain-request l fs) l fs
-  plain-request-strict h t = request-under h (λ _. t) (λ v. version-strict)
+  plain-request-strict h t = request-under h u (λ _. t) (λ v. version-strict)
 
 -- three digits are those of their number
 module _ {a b c : ℕ} (x : DIGIT a) (y : DIGIT b) (z : DIGIT c) where
@@ -98,31 +104,35 @@ code-default (grammar.status-code.any t x y z) = code-plain (grammar.status-code
 
 -- no reason, and the space before it
 nothing : {n : Version} {k : ℕ} {s : Rules} → HTTP-version s (plain-version n) n → status-code s (plain-code k) k → status-line s (plain-version n ++ space ++ plain-code k ++ space ++ []) (record { version = n; code = k; reason = [] })
-nothing {n} {k} {s} v d = subst (λ w. status-line s w (record { version = n; code = k; reason = [] })) (sym (append-nil (plain-version n ++ space ++ plain-code k ++ space))) (grammar.status-line.no-reason v d)
+nothing {n} {k} {s} v d = subst (λ w. status-line s w (record { version = n; code = k; reason = [] })) (sym (append-nil (plain-version n ++ space ++ plain-code k ++ space))) (grammar.status-line.no-reason v grammar.delimiter.one d grammar.delimiter.one)
 
--- the parts of a status line, under rules that take them
+-- the parts of a status line, under rules that take them, and in which what is left of the reason stays a reason
 status-plain : {r s : Rules} {w : List ℕ} {l : StatusLine} → status-line r w l → ((v : List ℕ) → HTTP-version r v (l .version) → HTTP-version s (plain-version (l .version)) (l .version)) → ((c : List ℕ) → status-code r c (l .code) → status-code s (plain-code (l .code)) (l .code)) →
-    (r .obs-reason ≡ false → Some text (l .reason) → reason-phrase s (l .reason) (l .reason)) → status-line s (plain-version (l .version) ++ space ++ plain-code (l .code) ++ space ++ l .reason) l
-status-plain (grammar.status-line.reason {v = a} {c = b} v c (grammar.reason-phrase.ascii k)) f g i = grammar.status-line.reason (f a v) (g b c) (grammar.reason-phrase.ascii k)
-status-plain (grammar.status-line.reason {v = a} {c = b} v c (grammar.reason-phrase.whole t k)) f g i = grammar.status-line.reason (f a v) (g b c) (i t k)
-status-plain (grammar.status-line.reason {v = a} {c = b} v c (grammar.reason-phrase.emptied t k o u)) f g i = nothing (f a v) (g b c)
-status-plain (grammar.status-line.no-reason {v = a} {c = b} v c) f g i = nothing (f a v) (g b c)
-status-plain (grammar.status-line.code-ends {v = a} {c = b} t v c) f g i = nothing (f a v) (g b c)
+    (r .obs-reason ≡ false → Some text (l .reason) → reason-phrase s (l .reason) (l .reason)) → (no-space-left r (l .reason) → no-space-left s (l .reason)) → status-line s (plain-version (l .version) ++ space ++ plain-code (l .code) ++ space ++ l .reason) l
+status-plain (grammar.status-line.reason {v = a} {c = b} v x c y (grammar.reason-phrase.ascii k) n) f g i j = grammar.status-line.reason (f a v) grammar.delimiter.one (g b c) grammar.delimiter.one (grammar.reason-phrase.ascii k) (j n)
+status-plain (grammar.status-line.reason {v = a} {c = b} v x c y (grammar.reason-phrase.whole t k) n) f g i j = grammar.status-line.reason (f a v) grammar.delimiter.one (g b c) grammar.delimiter.one (i t k) (j n)
+status-plain (grammar.status-line.reason {v = a} {c = b} v x c y (grammar.reason-phrase.emptied t k o u) n) f g i j = nothing (f a v) (g b c)
+status-plain (grammar.status-line.no-reason {v = a} {c = b} v x c y) f g i j = nothing (f a v) (g b c)
+status-plain (grammar.status-line.code-ends {v = a} {c = b} t v x c) f g i j = nothing (f a v) (g b c)
 
 -- from any rules to any others that take the line's parts
-response-under : {r s : Rules} {w : List ℕ} {l : StatusLine} {fs : List Field} → response-head r w l fs → ((v : List ℕ) → HTTP-version r v (l .version) → HTTP-version s (plain-version (l .version)) (l .version)) →
-    ((c : List ℕ) → status-code r c (l .code) → status-code s (plain-code (l .code)) (l .code)) → (r .obs-reason ≡ false → Some text (l .reason) → reason-phrase s (l .reason) (l .reason)) → response-head s (plain-response l fs) l fs
-response-under (grammar.head.message e h c b) f g i = grammar.head.message grammar.empty-lines.none (status-plain h f g i) crlf (plain-block b)
+response-under : {r s : Rules} {w : List ℕ} {l : StatusLine} {fs : List Field} → response-head r w l fs → OneLine fs → ((v : List ℕ) → HTTP-version r v (l .version) → HTTP-version s (plain-version (l .version)) (l .version)) →
+    ((c : List ℕ) → status-code r c (l .code) → status-code s (plain-code (l .code)) (l .code)) → (r .obs-reason ≡ false → Some text (l .reason) → reason-phrase s (l .reason) (l .reason)) → (no-space-left r (l .reason) → no-space-left s (l .reason)) → response-head s (plain-response l fs) l fs
+response-under (grammar.head.message {l = l} e h c n b) u f g i j = plain-head (plain-version (l .version) ++ space ++ plain-code (l .code) ++ space ++ l .reason) (status-plain h f g i j) (plain-block b u)
 
-module _ {r : Rules} {w : List ℕ} {l : StatusLine} {fs : List Field} where
+-- where one space alone is a delimiter, a reason may begin with any
+one-space : (s : Rules) {w : List ℕ} → s .spaces-in-status-line ≡ false → no-space-left s w
+one-space s off t u e = absurd (false≢true (sym off ∙ t))
+
+module _ {r : Rules} {w : List ℕ} {l : StatusLine} {fs : List Field} (u : OneLine fs) where
   -- under the rules of the head itself, whatever they are
   pub plain-response-own : response-head r w l fs → response-head r (plain-response l fs) l fs
-  plain-response-own h = response-under h (λ v. version-plain) (λ c. code-plain) grammar.reason-phrase.whole
+  plain-response-own h = response-under h u (λ v. version-plain) (λ c. code-plain) grammar.reason-phrase.whole (λ n. n)
 
   -- under default, if the version is 1.0 or 1.1, and a reason with obs-text was given as empty
   pub plain-response-derived : r .known-versions ≡ true → r .obs-reason ≡ true → response-head r w l fs → response-head default (plain-response l fs) l fs
-  plain-response-derived k o h = response-under h (λ v. version-known k) (λ c. code-default) (λ t x. absurd (false≢true (sym t ∙ o)))
+  plain-response-derived k o h = response-under h u (λ v. version-known k) (λ c. code-default) (λ t x. absurd (false≢true (sym t ∙ o))) (λ _. one-space default refl)
 
   -- under strict, if the code is
   pub plain-response-strict : response-head r w l fs → status-code strict (plain-code (l .code)) (l .code) → response-head strict (plain-response l fs) l fs
-  plain-response-strict h d = response-under h (λ v. version-strict) (λ _ _. d) (λ t x. grammar.reason-phrase.whole refl x)
+  plain-response-strict h d = response-under h u (λ v. version-strict) (λ _ _. d) (λ t x. grammar.reason-phrase.whole refl x) (λ _. one-space strict refl)

@@ -1,3 +1,4 @@
 pub mod Plain
+pub mod OneLine
 pub mod Derived
 pub mod Short

@@ -1,9 +1,19 @@
 -- The plain form of a head: its fields written with no more than the RFCs ask for, and no leniency but those that a field itself has.
 -- Assumes nothing.
 use Prim.Native.Nat.{ℕ, _+_, _/_, _%_}
+use mathlib.Core.Path.{_≡_}
 use mathlib.Core.List.{List, [], _∷_, _++_}
+use Rattle.grammar.specs.Rows.{Many}
 use Rattle.grammar.specs.Fields.{Field}
 use Rattle.grammar.specs.Message.{space, colon, CRLF, Version, HTTP-name, RequestLine, StatusLine}
+
+-- a value that stands on one line; only these have a place in a plain form
+abbrev pub one-line : List ℕ → Type 0
+one-line v = Many (λ b. b ≡ 0x0A → ⊥) v
+
+abbrev pub OneLine : List Field → Type 0
+OneLine [] = Unit {0}
+OneLine (f ∷ fs) = one-line (f .value) × OneLine fs
 
 -- HTTP/ and two digits with a dot between, of which the first is 1 under default
 abbrev pub plain-version : Version → List ℕ

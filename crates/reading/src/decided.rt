@@ -1,5 +1,6 @@
 // What was expected at the byte that decided an error.
 use crate::First;
+use crate::Reading;
 use expected::Expected;
 use expected::InHeader;
 use expected::InRequestLine;
@@ -8,6 +9,7 @@ use expected::InStatusLine;
 use page::place;
 use parts::Error;
 use requestline::RequestLine;
+use rules::Settings;
 use startline::KnownNumber;
 use startline::KnownPiece;
 use statusline::StatusLine;
@@ -21,19 +23,42 @@ const CR: u8 = 13;
 
 const SPACE: u8 = 32;
 
+// Where blanks may stand in the lines of headers: before the first name, between a name and its colon, and before what goes on with a value.
+struct Blanks {
+    before_first_name: bool,
+    after_name: bool,
+    before_more: bool,
+}
+
 // What the start line told by then says which part of it the byte stands in. A CR is the start of a line's end, wherever it is read.
-pub fn expected(first: First, wrong: Wrong, s: &[u8], position: usize) -> Expected {
+pub fn expected(
+    reading: Reading,
+    wrong: Wrong,
+    s: &[u8],
+    position: usize,
+    settings: Settings,
+) -> Expected {
     let before = byte_before(s, position);
-    let byte = byte_at(s, position);
     if before == CR {
         return Expected::LineFeed;
     }
+    let first = reading.first;
     match wrong {
-        Wrong::Size => Expected::Size(in_size(before, byte, position)),
+        Wrong::Size => Expected::Size(in_size(before, byte_at(s, position), position)),
         Wrong::Head(error) => match first {
-            First::Request(line) => in_request(line, error, before, byte),
-            First::Status(line) => in_response(line, error, before, s, position),
-            _ => Expected::Header(in_header(error, before)),
+            First::Request(line) => in_request(line, error, s, position, reading.count, settings),
+            First::Status(line) => in_response(line, error, s, position, reading.count, settings),
+            _ => in_header(
+                error,
+                s,
+                position,
+                reading.count,
+                Blanks {
+                    before_first_name: false,
+                    after_name: false,
+                    before_more: false,
+                },
+            ),
         },
     }
 }
@@ -47,18 +72,43 @@ fn byte_before(s: &[u8], at: usize) -> u8 {
     if at == 0 { LF } else { byte_at(s, at - 1) }
 }
 
-fn in_request(line: RequestLine, error: Error, before: u8, byte: u8) -> Expected {
+// What stands before a position in its line.
+fn line_before(s: &[u8], position: usize) -> &[u8] {
+    let line = place::last_line(place::part(s, 0, position));
+    place::part(s, line.start, line.length)
+}
+
+fn in_request(
+    line: RequestLine,
+    error: Error,
+    s: &[u8],
+    position: usize,
+    count: usize,
+    settings: Settings,
+) -> Expected {
     let method = line.method;
+    let before = byte_before(s, position);
+    let byte = byte_at(s, position);
     match error {
         Error::Token => Expected::Request(
             match method {
-                KnownPiece::Is(_) => in_target(before, byte),
+                KnownPiece::Is(_) => in_target(before, byte, settings.spaces_in_request_line),
                 KnownPiece::NotYet => in_method(before),
             },
         ),
-        Error::Version => Expected::Request(InRequestLine::Version),
+        Error::Version => Expected::Request(in_version(settings.spaces_in_request_line)),
         Error::NewLine => Expected::Request(InRequestLine::LineEnd),
-        _ => Expected::Header(in_header(error, before)),
+        _ => in_header(
+            error,
+            s,
+            position,
+            count,
+            Blanks {
+                before_first_name: settings.space_before_first_name,
+                after_name: false,
+                before_more: false,
+            },
+        ),
     }
 }
 
@@ -72,21 +122,39 @@ fn in_method(before: u8) -> InRequestLine {
 
 // A space ends a target, so it is wrong where none stands before it, or one that is not UTF-8. Bytes from 0x80 on are wrong only where
 // ASCII is asked for.
-fn in_target(before: u8, byte: u8) -> InRequestLine {
+fn in_target(before: u8, byte: u8, spaces: bool) -> InRequestLine {
     if byte == SPACE {
         if before == SPACE {
             return InRequestLine::TargetStart;
         }
         return InRequestLine::Utf8Target;
     }
-    if byte < 0x80 {
-        InRequestLine::Target
+    if 0x80 <= byte {
+        return InRequestLine::AsciiTarget;
+    }
+    if spaces & (before == SPACE) {
+        InRequestLine::SpacedTarget
     } else {
-        InRequestLine::AsciiTarget
+        InRequestLine::Target
     }
 }
 
-fn in_response(line: StatusLine, error: Error, before: u8, s: &[u8], position: usize) -> Expected {
+fn in_version(spaces: bool) -> InRequestLine {
+    if spaces {
+        InRequestLine::SpacedVersion
+    } else {
+        InRequestLine::Version
+    }
+}
+
+fn in_response(
+    line: StatusLine,
+    error: Error,
+    s: &[u8],
+    position: usize,
+    count: usize,
+    settings: Settings,
+) -> Expected {
     let version = line.version;
     let code = line.code;
     match error {
@@ -98,35 +166,85 @@ fn in_response(line: StatusLine, error: Error, before: u8, s: &[u8], position: u
         ),
         Error::Status => Expected::Status(
             match code {
-                KnownNumber::Is(_) => behind_code(s, position),
-                KnownNumber::NotYet => InStatusLine::Digit,
+                KnownNumber::Is(_) => behind_code(line_before(s, position)),
+                KnownNumber::NotYet => in_code(settings.spaces_in_status_line),
             },
         ),
-        _ => Expected::Header(in_header(error, before)),
+        _ => in_header(
+            error,
+            s,
+            position,
+            count,
+            Blanks {
+                before_first_name: settings.space_before_first_name,
+                after_name: settings.spaces_after_name,
+                before_more: settings.multiline_headers,
+            },
+        ),
     }
 }
 
-// A code ends behind the first twelve bytes of its line, as in HTTP/1.1 200.
-fn behind_code(s: &[u8], position: usize) -> InStatusLine {
-    let line = place::last_line(place::part(s, 0, position));
-    if line.length == 12 {
+fn in_code(spaces: bool) -> InStatusLine {
+    if spaces {
+        InStatusLine::SpacedDigit
+    } else {
+        InStatusLine::Digit
+    }
+}
+
+// A version, spaces and a code, with nothing behind them yet or with the space that a reason stands behind.
+fn behind_code(line: &[u8]) -> InStatusLine {
+    let version_end = skips::skip_visible(line, 0);
+    let code = skips::skip_blank(line, version_end);
+    let code_end = skips::skip_visible(line, code);
+    if code_end == line.len() {
         InStatusLine::BehindCode
     } else {
         InStatusLine::Reason
     }
 }
 
-fn in_header(error: Error, before: u8) -> InHeader {
-    match error {
-        Error::HeaderValue => InHeader::Value,
-        Error::TooManyHeaders => InHeader::NoMore,
-        _ => {
-            if before == LF {
-                InHeader::Start
-            } else {
-                InHeader::Name
-            }
+fn in_header(error: Error, s: &[u8], position: usize, count: usize, blanks: Blanks) -> Expected {
+    Expected::Header(
+        match error {
+            Error::HeaderValue => InHeader::Value,
+            Error::TooManyHeaders => InHeader::NoMore,
+            _ => in_name(
+                line_before(s, position),
+                byte_before(s, position),
+                count,
+                blanks,
+            ),
+        },
+    )
+}
+
+// Where there are only blanks before the byte, if any, no name has begun.
+fn in_name(line: &[u8], before: u8, count: usize, blanks: Blanks) -> InHeader {
+    if skips::skip_blank(line, 0) == line.len() {
+        return line_start(count, blanks);
+    }
+    if !blanks.after_name {
+        return InHeader::Name;
+    }
+    if (before == SPACE) | (before == TAB) {
+        InHeader::Colon
+    } else {
+        InHeader::SpacedName
+    }
+}
+
+fn line_start(count: usize, blanks: Blanks) -> InHeader {
+    if count == 0 {
+        if blanks.before_first_name {
+            return InHeader::SpacedStart;
         }
+        return InHeader::Start;
+    }
+    if blanks.before_more {
+        InHeader::StartOrMore
+    } else {
+        InHeader::Start
     }
 }
 

@@ -41,7 +41,7 @@ pub struct Reading {
 pub fn read(kind: Kind, s: &[u8], slots: &mut Slots, settings: Settings) -> Reading {
     match kind {
         Kind::Request => request(s, slots, settings),
-        Kind::Response => response(s, slots),
+        Kind::Response => response(s, slots, settings),
         Kind::Headers => headers(s, slots),
         Kind::Chunk => chunk(s),
     }
@@ -58,8 +58,8 @@ fn request(s: &[u8], slots: &mut Slots, settings: Settings) -> Reading {
     }
 }
 
-fn response(s: &[u8], slots: &mut Slots) -> Reading {
-    let head = calls::response(s, slots);
+fn response(s: &[u8], slots: &mut Slots, settings: Settings) -> Reading {
+    let head = calls::response(s, slots, settings);
     let end = head.end;
     let line = head.line;
     Reading {

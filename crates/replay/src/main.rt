@@ -15,6 +15,9 @@ const MOST_HEADERS: u64 = 16;
 
 const NUMBERS: usize = 72;
 
+// Settings are eight bits, some of which have no meaning yet.
+const ALL_SETTINGS: u64 = 255;
+
 // The longest input of a row.
 const LONGEST: usize = 1024;
 
@@ -24,9 +27,10 @@ const MOST_BLOCKS: usize = 1000;
 // What every number of the slots is before a call.
 const UNTOUCHED: usize = 7777777;
 
-// The call that a row's first number names, on the first `count` bytes and the first `lent` numbers.
+// The call that a row's first number names, with its settings, on the first `count` bytes and the first `lent` numbers.
 fn ask(
     call: u64,
+    settings: u32,
     input: &[u8],
     count: usize,
     slots: &mut [usize],
@@ -36,8 +40,8 @@ fn ask(
     requires { ⌜ (count ≤ length (now input)) × (lent ≤ length (now slots)) ⌝ }
 {
     match call {
-        0 => headreader::hr_request(&input[0..count], &mut slots[0..lent], out, 0),
-        1 => headreader::hr_response(&input[0..count], &mut slots[0..lent], out, 0),
+        0 => headreader::hr_request(&input[0..count], &mut slots[0..lent], out, settings),
+        1 => headreader::hr_response(&input[0..count], &mut slots[0..lent], out, settings),
         2 => headreader::hr_headers(&input[0..count], &mut slots[0..lent], out),
         _ => headreader::hr_chunk_size(&input[0..count], out),
     }
@@ -79,10 +83,14 @@ fn same_slots(s: &[u8], at: usize, slots: &[usize], written: usize) -> bool {
     true
 }
 
-// Whether Headreader answers what a row has: call, slots, input, kind, eight numbers, and the slots written.
+// Whether Headreader answers what a row has: call, settings, slots, input, kind, eight numbers, and the slots written.
 fn agrees(row: &[u8]) -> bool {
     let call = read_number(row, 0);
-    let lent = read_number(row, call.next);
+    let settings = read_number(row, call.next);
+    if ALL_SETTINGS < settings.value {
+        return false;
+    }
+    let lent = read_number(row, settings.next);
     if MOST_HEADERS < lent.value {
         return false;
     }
@@ -95,7 +103,15 @@ fn agrees(row: &[u8]) -> bool {
     let mut out = [UNTOUCHED; 8];
     let count = read.count;
     let end = (lent.value as usize) * 4 + 3;
-    let told = ask(call.value, input, count, slots, end, &mut out);
+    let told = ask(
+        call.value,
+        settings.value as u32,
+        input,
+        count,
+        slots,
+        end,
+        &mut out,
+    );
     if kind.value != told as u64 {
         return false;
     }

@@ -1,4 +1,5 @@
 // The report on an input: an answer, told to a person or to a script, and the rows of what was found.
+mod folded;
 mod rows;
 
 use expected::Expected;
@@ -7,8 +8,8 @@ use page::text::Page;
 use page::text::fill;
 use page::text::put;
 use reading::Answer;
-use reading::First;
 use reading::NUMBERS;
+use reading::Reading;
 use reading::decided::expected;
 use rules::Settings;
 use wording::Kind;
@@ -18,12 +19,11 @@ use wording::Wrong;
 pub fn report(page: &mut Page, kind: Kind, raw: bool, s: &[u8], settings: Settings) -> usize {
     let mut slots = [0usize; NUMBERS];
     let reading = reading::read(kind, s, &mut slots, settings);
-    let answer = reading.answer;
     let first = reading.first;
     let next = if raw {
-        for_script(page, answer, s)
+        for_script(page, reading, s)
     } else {
-        for_person(page, kind, answer, first, s)
+        for_person(page, kind, reading, s, settings)
     };
     let next = rows::first_line(page, next, raw, s, first);
     match kind {
@@ -32,8 +32,20 @@ pub fn report(page: &mut Page, kind: Kind, raw: bool, s: &[u8], settings: Settin
     }
 }
 
+// The report to a person on an input that has no plain form: where it is complete, on the value that keeps it from having one.
+pub fn no_plain_form(page: &mut Page, kind: Kind, s: &[u8], settings: Settings) -> usize {
+    let mut slots = [0usize; NUMBERS];
+    let reading = reading::read(kind, s, &mut slots, settings);
+    let answer = reading.answer;
+    match answer {
+        Answer::Complete(_) => folded::folded(page, s, &slots),
+        _ => report(page, kind, false, s, settings),
+    }
+}
+
 // The answer, and where the input is complete or where it is not.
-fn for_script(page: &mut Page, answer: Answer, s: &[u8]) -> usize {
+fn for_script(page: &mut Page, reading: Reading, s: &[u8]) -> usize {
+    let answer = reading.answer;
     match answer {
         Answer::Complete(end) => fill(page, 0, b"answer\tcomplete\nend\t#\n", end, 0),
         Answer::Incomplete => {
@@ -69,12 +81,19 @@ fn stop_rows(page: &mut Page, at: usize, s: &[u8], position: usize) -> usize {
     )
 }
 
-fn for_person(page: &mut Page, kind: Kind, answer: Answer, first: First, s: &[u8]) -> usize {
+fn for_person(
+    page: &mut Page,
+    kind: Kind,
+    reading: Reading,
+    s: &[u8],
+    settings: Settings,
+) -> usize {
+    let answer = reading.answer;
     let next = match answer {
         Answer::Complete(end) => complete(page, kind, end, s.len()),
         Answer::Incomplete => incomplete(page, kind, s),
         Answer::Wrong(wrong, position) => {
-            let expected = expected(first, wrong, s, position);
+            let expected = expected(reading, wrong, s, position, settings);
             refused(page, wrong, expected, s, position)
         }
     };

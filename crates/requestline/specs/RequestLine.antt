@@ -1,13 +1,16 @@
 -- The start of a request: empty lines, then a request line, method SP target SP version and the line's end (RFC 9112, 3).
 -- Assumes nothing.
 use Prim.Native.Nat.{ℕ}
-use mathlib.Core.Path.{_≡_, sym, _∙_}
+use mathlib.Core.Path.{_≡_, sym, ap, _∙_}
 use mathlib.Core.List.{List}
+use mathlib.Core.Bool.{Bool}
 use Rattle.reader.specs.Machine.{Step, runAt}
 use Rattle.reader.specs.Seq.{Then, first, seq}
+use Rattle.reader.specs.Skip.{Skipped}
 use Rattle.reader.specs.Answer.{Answer, answer, either}
-use Rattle.reader.specs.Chain.{part, last, chain, chain-same, answer-last, answer-chain}
+use Rattle.reader.specs.Chain.{reads, part, last, chain, chain-same, answer-last, answer-chain}
 use Rattle.octets.specs.Class.{isToken}
+use Rattle.gaps.specs.Gap.{Behind, spacesIf, behindGap, reads-behind}
 use Rattle.parts.specs.declared.Fault.{Fault}
 use Rattle.parts.specs.declared.Error.the-variants.{NewLine, Token}
 use Rattle.parts.specs.declared.Piece.{Piece}
@@ -41,10 +44,10 @@ Line S = Step S RequestLine (Fault × RequestLine)
 
 -- the states, from the last part to the first
 abbrev pub Versions : Type 0
-Versions = Then (List ℕ) RequestLine LineEnd
+Versions = Then (Behind (List ℕ)) RequestLine LineEnd
 
 abbrev pub Targets : Type 0
-Targets = Then Target RequestLine Versions
+Targets = Then (Behind Target) RequestLine Versions
 
 abbrev pub Methods : Type 0
 Methods = Then Word RequestLine Targets
@@ -53,17 +56,27 @@ abbrev pub Starts : Type 0
 Starts = Then EmptyLines RequestLine Methods
 
 module _ (r : Rules) where
+  -- the spaces behind the one that parts two parts, where there may be several
+  abbrev pub moreSpaces : ℕ → Bool
+  moreSpaces = spacesIf (r .spaces-in-request-line)
+
+  abbrev pub gapVersion : Step (Behind (List ℕ)) ℕ Fault
+  gapVersion = behindGap moreSpaces versionStep name
+
+  abbrev pub gapTarget : Step (Behind Target) Piece Fault
+  gapTarget = behindGap moreSpaces (targetStep (targetByte (r .any-target))) targets.none
+
   abbrev pub endStep : RequestLine → Line LineEnd
   endStep k = part k (λ _. k) (lineEndStep r NewLine)
 
   abbrev pub versionOn : RequestLine → Line Versions
-  versionOn k = seq (part k (withVersion k) versionStep) (λ _. begin) endStep
+  versionOn k = seq (part k (withVersion k) gapVersion) (λ _. begin) endStep
 
   abbrev pub targetOn : RequestLine → Line Targets
-  targetOn k = seq (part k (withTarget k) (targetStep (targetByte (r .any-target)))) (λ _. first name) versionOn
+  targetOn k = seq (part k (withTarget k) gapTarget) (λ _. first (first tt)) versionOn
 
   abbrev pub methodOn : RequestLine → Line Methods
-  methodOn k = seq (part k (withMethod k) (wordStep isToken 32 Token)) (λ _. first targets.none) targetOn
+  methodOn k = seq (part k (withMethod k) (wordStep isToken 32 Token)) (λ _. first (first tt)) targetOn
 
   abbrev pub requestLineStep : Line Starts
   requestLineStep = seq (part unread (λ _. unread) (emptyLinesStep r)) (λ _. first words.none) methodOn
@@ -93,10 +106,10 @@ module _ (r : Rules) (xs : List ℕ) where
   fromEnd k q = last k (λ _. k) (lineEnd r NewLine xs q)
 
   abbrev pub fromVersion : RequestLine → ℕ → Answer RequestLine RequestLine (Fault × RequestLine)
-  fromVersion k q = chain k (withVersion k) (version xs q) fromEnd
+  fromVersion k q = chain k (withVersion k) (reads (gapVersion r) (first tt) xs q) fromEnd
 
   abbrev pub fromTarget : RequestLine → ℕ → Answer RequestLine RequestLine (Fault × RequestLine)
-  fromTarget k q = chain k (withTarget k) (target (targetByte (r .any-target)) xs q) fromVersion
+  fromTarget k q = chain k (withTarget k) (reads (gapTarget r) (first tt) xs q) fromVersion
 
   abbrev pub fromMethod : RequestLine → ℕ → Answer RequestLine RequestLine (Fault × RequestLine)
   fromMethod k q = chain k (withMethod k) (word isToken 32 Token xs q) fromTarget
@@ -107,19 +120,19 @@ module _ (r : Rules) (xs : List ℕ) where
   end-parts : (k : RequestLine) (q : ℕ) → answer (endKnown k) (runAt (endStep r k) begin xs q) ≡ fromEnd k q
   end-parts k q = answer-last k (λ _. k) (lineEndStep r NewLine) begin xs q
 
-  version-parts : (k : RequestLine) (q : ℕ) → answer (versionKnown k) (runAt (versionOn r k) (first name) xs q) ≡ fromVersion k q
+  version-parts : (k : RequestLine) (q : ℕ) → answer (versionKnown k) (runAt (versionOn r k) (first (first tt)) xs q) ≡ fromVersion k q
   version-parts k q =
-      answer-chain k (withVersion k) versionStep name xs q endKnown (λ _. begin) (endStep r)
-      ∙ chain-same k (withVersion k) (version xs q) end-parts
+      answer-chain k (withVersion k) (gapVersion r) (first tt) xs q endKnown (λ _. begin) (endStep r)
+      ∙ chain-same k (withVersion k) (reads (gapVersion r) (first tt) xs q) end-parts
 
-  target-parts : (k : RequestLine) (q : ℕ) → answer (targetKnown k) (runAt (targetOn r k) (first targets.none) xs q) ≡ fromTarget k q
+  target-parts : (k : RequestLine) (q : ℕ) → answer (targetKnown k) (runAt (targetOn r k) (first (first tt)) xs q) ≡ fromTarget k q
   target-parts k q =
-      answer-chain k (withTarget k) (targetStep (targetByte (r .any-target))) targets.none xs q versionKnown (λ _. first name) (versionOn r)
-      ∙ chain-same k (withTarget k) (target (targetByte (r .any-target)) xs q) version-parts
+      answer-chain k (withTarget k) (gapTarget r) (first tt) xs q versionKnown (λ _. first (first tt)) (versionOn r)
+      ∙ chain-same k (withTarget k) (reads (gapTarget r) (first tt) xs q) version-parts
 
   method-parts : (k : RequestLine) (q : ℕ) → answer (methodKnown k) (runAt (methodOn r k) (first words.none) xs q) ≡ fromMethod k q
   method-parts k q =
-      answer-chain k (withMethod k) (wordStep isToken 32 Token) words.none xs q targetKnown (λ _. first targets.none) (targetOn r)
+      answer-chain k (withMethod k) (wordStep isToken 32 Token) words.none xs q targetKnown (λ _. first (first tt)) (targetOn r)
       ∙ chain-same k (withMethod k) (word isToken 32 Token xs q) target-parts
 
   line-parts : (q : ℕ) → requestLine r xs q ≡ fromStart q
@@ -127,5 +140,15 @@ module _ (r : Rules) (xs : List ℕ) where
       answer-chain unread (λ _. unread) (emptyLinesStep r) start xs q methodKnown (λ _. first words.none) (methodOn r)
       ∙ chain-same unread (λ _. unread) (emptyLines r xs q) method-parts
 
+  -- a part is read where the spaces before it end
+  module _ (k : RequestLine) {at q : ℕ} (g : Skipped (moreSpaces r) xs at q) {z : Answer RequestLine RequestLine (Fault × RequestLine)} where
+    pub version-gapped : z ≡ chain k (withVersion k) (version xs q) fromEnd → z ≡ fromVersion k at
+    version-gapped e = e ∙ sym (ap (λ a. chain k (withVersion k) a fromEnd) (reads-behind g versionStep name))
+
+    pub target-gapped : z ≡ chain k (withTarget k) (target (targetByte (r .any-target)) xs q) fromVersion → z ≡ fromTarget k at
+    target-gapped e = e ∙ sym (ap (λ a. chain k (withTarget k) a fromVersion) (reads-behind g (targetStep (targetByte (r .any-target))) targets.none))
+
   pub request-line-whole : {z : Answer RequestLine RequestLine (Fault × RequestLine)} (q : ℕ) → z ≡ fromStart q → z ≡ requestLine r xs q
   request-line-whole q e = e ∙ sym (line-parts q)
+
+pub ruleset gapped = (version-gapped, target-gapped)

@@ -1,7 +1,7 @@
 // The start of a request: empty lines, and the request line.
 ghost use mathlib.Core.Path.{_≡_};
 ghost use Rattle.rules.specs.Rules.{default};
-ghost use Rattle.rules.specs.Settings.{rulesOf};
+ghost use Rattle.rules.specs.Settings.{requestRules};
 ghost use Rattle.startline.specs.Answers.{tell};
 ghost use Rattle.requestline.specs.RequestLine.{requestLine, fromEnd, fromVersion, fromTarget, fromMethod};
 use parts::Error;
@@ -39,11 +39,12 @@ fn request_end(s: &[u8], at: usize, line: RequestLine) -> RequestLineRead
     RequestLineRead { end, line }
 }
 
-// A version, and the line's end, which no setting changes.
-fn request_version(s: &[u8], at: usize, line: RequestLine) -> RequestLineRead
-    ensures { λ r. ⌜ tell (r .end) (r .line) ≡ fromVersion default (now (s .entry)) line at ⌝ }
+// A version, behind the spaces that a setting lets stand before it, and the line's end.
+fn request_version(s: &[u8], at: usize, line: RequestLine, settings: Settings) -> RequestLineRead
+    ensures { λ r. ⌜ tell (r .end) (r .line) ≡ fromVersion (requestRules settings) (now (s .entry)) line at ⌝ }
 {
-    let found = versions::version(s, at);
+    let start = gaps::spaces(s, at, settings.spaces_in_request_line);
+    let found = versions::version(s, start);
     match found {
         Number::At(version, next) => {
             let method = line.method;
@@ -63,11 +64,12 @@ fn request_version(s: &[u8], at: usize, line: RequestLine) -> RequestLineRead
     }
 }
 
-// A target and what follows it.
+// A target, behind the spaces that a setting lets stand before it, and what follows it.
 fn request_target(s: &[u8], at: usize, line: RequestLine, settings: Settings) -> RequestLineRead
-    ensures { λ r. ⌜ tell (r .end) (r .line) ≡ fromTarget (rulesOf settings) (now (s .entry)) line at ⌝ }
+    ensures { λ r. ⌜ tell (r .end) (r .line) ≡ fromTarget (requestRules settings) (now (s .entry)) line at ⌝ }
 {
-    let found = words::target(s, at, settings.ascii_targets);
+    let start = gaps::spaces(s, at, settings.spaces_in_request_line);
+    let found = words::target(s, start, settings.ascii_targets);
     match found {
         Found::At(target, next) => {
             let method = line.method;
@@ -80,6 +82,7 @@ fn request_target(s: &[u8], at: usize, line: RequestLine, settings: Settings) ->
                     target: KnownPiece::Is(target),
                     version,
                 },
+                settings,
             )
         }
         Found::More => stopped(Passed::More, line),
@@ -89,7 +92,7 @@ fn request_target(s: &[u8], at: usize, line: RequestLine, settings: Settings) ->
 
 // A method and what follows it.
 fn request_method(s: &[u8], at: usize, line: RequestLine, settings: Settings) -> RequestLineRead
-    ensures { λ r. ⌜ tell (r .end) (r .line) ≡ fromMethod (rulesOf settings) (now (s .entry)) line at ⌝ }
+    ensures { λ r. ⌜ tell (r .end) (r .line) ≡ fromMethod (requestRules settings) (now (s .entry)) line at ⌝ }
 {
     let found = words::token(s, at, 32, Error::Token);
     match found {
@@ -114,7 +117,7 @@ fn request_method(s: &[u8], at: usize, line: RequestLine, settings: Settings) ->
 
 // Empty lines and a request line, from the start of the input.
 pub fn request_line(s: &[u8], settings: Settings) -> RequestLineRead
-    ensures { λ r. ⌜ tell (r .end) (r .line) ≡ requestLine (rulesOf settings) (now (s .entry)) 0 ⌝ }
+    ensures { λ r. ⌜ tell (r .end) (r .line) ≡ requestLine (requestRules settings) (now (s .entry)) 0 ⌝ }
 {
     let line = RequestLine {
         method: KnownPiece::NotYet,

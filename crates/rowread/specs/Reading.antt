@@ -33,9 +33,9 @@ pub data Next {L K : Type 0} (Head : List ℕ → L → List Field → Type 0) (
   waits : Ends (read n z) More → ((w t : List ℕ) (l : L) (fs : List Field) → z ≡ w ++ t → Head w l fs → ⊥) → Next Head read n z More
   fails : {x : Fault} → Ends (read n z) (Bad x) → x .position < length z → ((u w t : List ℕ) (l : L) (fs : List Field) → z ++ u ≡ w ++ t → Head w l fs → length fs ≤ n → ⊥) → ((x .error ≡ TooManyHeaders → ⊥) → (u w t : List ℕ) (l : L) (fs : List Field) → z ++ u ≡ w ++ t → Head w l fs → ⊥) → Next Head read n z (Bad x)
 
-module _ {L K : Type 0} {Head : List ℕ → L → List Field → Type 0} {read : ℕ → List ℕ → Heads K} {Says : List ℕ → K → L → Type 0} {In : List ℕ → K → Type 0} (long : (w : List ℕ) (l : L) (fs : List Field) → Head w l fs → 1 ≤ length w)
+module _ {L K : Type 0} {Head : List ℕ → L → List Field → Type 0} {read : ℕ → List ℕ → Heads K} {Says : List ℕ → K → L → Type 0} {r : Rules} {In : List ℕ → K → Type 0} (long : (w : List ℕ) (l : L) (fs : List Field) → Head w l fs → 1 ≤ length w)
     {z old : List ℕ} {line : K} {count : ℕ} {new : List ℕ} where
-  next : (end : Passed) → Told (read (length old / 4) z) end line count old new → HeadPromise Head Says In z old end line count new → {r : Rules} → FaultPromise r (length old / 4) (read (length old / 4)) z end → Next Head read (length old / 4) z end
+  next : (end : Passed) → Told (read (length old / 4) z) end line count old new → HeadPromise r Head Says In z old end line count new → FaultPromise r (length old / 4) (read (length old / 4)) z end → Next Head read (length old / 4) z end
   next (At q) T P F = let H = P .complete q refl in found (H .rest) (H .whole) (H .end) (long (H .bytes) (H .said) _ (H .head)) (H .head) (omega (arith, fields-counted z count new, P .within .0))
   next More T P F = waits ((line, given (read (length old / 4) z)), T .answer) (P .incomplete refl)
   next (Bad x) T P F = fails ((line, given (read (length old / 4) z)), T .answer) (F .placed x refl .within) (P .error x refl) (P .error-at-all x refl)
@@ -45,13 +45,13 @@ rest-of : (s : List ℕ) (at : ℕ) → take (length s - at) (drop at s) ≡ dro
 rest-of s at = take-all (length s - at) (drop at s) (omega (arith, length-drop at s))
 
 module _ (r : Rules) (s : List ℕ) (at : ℕ) {old : List ℕ} {end : Passed} {count : ℕ} {new : List ℕ} where
-  pub next-request : {line : RequestLine} → Told (request r (length old / 4) (take (length s - at) (drop at s))) end line count old new → HeadPromise (request-head r) RequestSays (RequestInside r) (take (length s - at) (drop at s)) old end line count new → FaultPromise r (length old / 4) (request r (length old / 4)) (take (length s - at) (drop at s)) end → Next (request-head r) (request r) (length old / 4) (drop at s) end
+  pub next-request : {line : RequestLine} → Told (request r (length old / 4) (take (length s - at) (drop at s))) end line count old new → HeadPromise r (request-head r) RequestSays (RequestInside r) (take (length s - at) (drop at s)) old end line count new → FaultPromise r (length old / 4) (request r (length old / 4)) (take (length s - at) (drop at s)) end → Next (request-head r) (request r) (length old / 4) (drop at s) end
   next-request T P F = subst (λ z. Next (request-head r) (request r) (length old / 4) z end) (rest-of s at) (next {read = request r} (λ w l fs. head-long) end T P F)
 
   pub used-request : {line : RequestLine} → Told (request r (length old / 4) (take (length s - at) (drop at s))) end line count old new → new ≡ used (request r) (length old / 4) (drop at s) old
   used-request T = T .slots ∙ ap (λ z. used (request r) (length old / 4) z old) (rest-of s at)
 
-  pub next-response : {line : StatusLine} → Told (response r (length old / 4) (take (length s - at) (drop at s))) end line count old new → HeadPromise (response-head r) StatusSays StatusInside (take (length s - at) (drop at s)) old end line count new → FaultPromise r (length old / 4) (response r (length old / 4)) (take (length s - at) (drop at s)) end → Next (response-head r) (response r) (length old / 4) (drop at s) end
+  pub next-response : {line : StatusLine} → Told (response r (length old / 4) (take (length s - at) (drop at s))) end line count old new → HeadPromise r (response-head r) StatusSays StatusInside (take (length s - at) (drop at s)) old end line count new → FaultPromise r (length old / 4) (response r (length old / 4)) (take (length s - at) (drop at s)) end → Next (response-head r) (response r) (length old / 4) (drop at s) end
   next-response T P F = subst (λ z. Next (response-head r) (response r) (length old / 4) z end) (rest-of s at) (next {read = response r} (λ w l fs. head-long) end T P F)
 
   pub used-response : {line : StatusLine} → Told (response r (length old / 4) (take (length s - at) (drop at s))) end line count old new → new ≡ used (response r) (length old / 4) (drop at s) old

@@ -26,6 +26,16 @@ pub record Rules : Type 0 where
   pub no-digit : Bool
   -- a chunk size has at most sixteen digits
   pub sixteen-digits : Bool
+  -- several spaces may part the parts of a request line
+  pub spaces-in-request-line : Bool
+  -- several spaces may part the parts of a status line
+  pub spaces-in-status-line : Bool
+  -- blanks may stand between a start line and the first name, or the empty line, behind it
+  pub space-before-first-name : Bool
+  -- blanks may stand between a name and its colon
+  pub spaces-after-name : Bool
+  -- a line that begins with a blank goes on with the value of the line before it
+  pub multiline-headers : Bool
 
 -- the RFCs' grammar alone, without what the prose of RFC 9112, section 2.2, lets a recipient do besides (lf-alone, empty-lines); of a target
 -- no more is asked than that it is visible, and a code has one of its classes
@@ -42,6 +52,11 @@ strict = record {
   any-extension = false;
   no-digit = false;
   sixteen-digits = false;
+  spaces-in-request-line = false;
+  spaces-in-status-line = false;
+  space-before-first-name = false;
+  spaces-after-name = false;
+  multiline-headers = false;
 }
 
 -- what httparse reads with no setting on
@@ -58,4 +73,9 @@ default = record {
   any-extension = true;
   no-digit = true;
   sixteen-digits = true;
+  spaces-in-request-line = false;
+  spaces-in-status-line = false;
+  space-before-first-name = false;
+  spaces-after-name = false;
+  multiline-headers = false;
 }

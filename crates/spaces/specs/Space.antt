@@ -15,11 +15,11 @@ use Rattle.parts.specs.declared.Error.{Error}
 use Rattle.parts.specs.declared.Error.the-variants.{Status}
 use Rattle.parts.specs.declared.Fault.{Fault}
 use Rattle.parts.specs.Answers.{fault}
+use Rattle.parts.specs.Byte.{byteStep}
 use Rattle.rules.specs.Rules.{Rules, default}
 
--- a machine of one byte has one state
 abbrev pub spaceStep : Error → Step (Unit {0}) (Unit {0}) Fault
-spaceStep e s p b = cond (eqb b 32) (give tt) (refuse (fault e p))
+spaceStep = byteStep 32
 
 abbrev pub space : Error → List ℕ → ℕ → Answer (Unit {0}) (Unit {0}) Fault
 space e xs at = reads (spaceStep e) tt xs at

@@ -3,6 +3,7 @@ ghost use mathlib.Core.Path.{_≡_};
 ghost use Rattle.reader.specs.Chain.{ended};
 ghost use Rattle.parts.specs.declared.Error.the-variants.{Status};
 ghost use Rattle.rules.specs.Rules.{default};
+ghost use Rattle.rules.specs.Settings.{responseRules};
 ghost use Rattle.parts.specs.Answers.{found as foundOf};
 ghost use Rattle.parts.specs.LineEnd.{lineEnd};
 ghost use Rattle.startline.specs.Answers.{tell};
@@ -12,6 +13,7 @@ use parts::Found;
 use parts::Number;
 use parts::Passed;
 use parts::Piece;
+use rules::Settings;
 use startline::KnownNumber;
 use startline::KnownPiece;
 
@@ -58,11 +60,12 @@ fn reason_line(s: &[u8], at: usize) -> Found
     }
 }
 
-// The last part: a reason is known once its line has ended.
-fn status_reason(s: &[u8], at: usize, line: StatusLine) -> StatusLineRead
-    ensures { λ r. ⌜ tell (r .end) (r .line) ≡ fromReason default (now (s .entry)) line at ⌝ }
+// The last part, behind the spaces that a setting lets stand before it: a reason is known once its line has ended.
+fn status_reason(s: &[u8], at: usize, line: StatusLine, settings: Settings) -> StatusLineRead
+    ensures { λ r. ⌜ tell (r .end) (r .line) ≡ fromReason (responseRules settings) (now (s .entry)) line at ⌝ }
 {
-    let found = reason_line(s, at);
+    let start = gaps::spaces(s, at, settings.spaces_in_status_line);
+    let found = reason_line(s, start);
     match found {
         Found::At(reason, next) => {
             let version = line.version;
@@ -82,22 +85,23 @@ fn status_reason(s: &[u8], at: usize, line: StatusLine) -> StatusLineRead
 }
 
 // What stands right behind the code, and the reason.
-fn status_behind(s: &[u8], at: usize, line: StatusLine) -> StatusLineRead
-    ensures { λ r. ⌜ tell (r .end) (r .line) ≡ fromBehind default (now (s .entry)) line at ⌝ }
+fn status_behind(s: &[u8], at: usize, line: StatusLine, settings: Settings) -> StatusLineRead
+    ensures { λ r. ⌜ tell (r .end) (r .line) ≡ fromBehind (responseRules settings) (now (s .entry)) line at ⌝ }
 {
     let passed = spaces::behind_code(s, at);
     match passed {
-        Passed::At(next) => status_reason(s, next, line),
+        Passed::At(next) => status_reason(s, next, line, settings),
         Passed::More => stopped(Passed::More, line),
         Passed::Bad(e) => stopped(Passed::Bad(e), line),
     }
 }
 
-// A code and what follows it.
-fn status_code(s: &[u8], at: usize, line: StatusLine) -> StatusLineRead
-    ensures { λ r. ⌜ tell (r .end) (r .line) ≡ fromCode default (now (s .entry)) line at ⌝ }
+// A code, behind the spaces that a setting lets stand before it, and what follows it.
+fn status_code(s: &[u8], at: usize, line: StatusLine, settings: Settings) -> StatusLineRead
+    ensures { λ r. ⌜ tell (r .end) (r .line) ≡ fromCode (responseRules settings) (now (s .entry)) line at ⌝ }
 {
-    let found = status::code(s, at);
+    let start = gaps::spaces(s, at, settings.spaces_in_status_line);
+    let found = status::code(s, start);
     match found {
         Number::At(code, next) => {
             let version = line.version;
@@ -110,6 +114,7 @@ fn status_code(s: &[u8], at: usize, line: StatusLine) -> StatusLineRead
                     code: KnownNumber::Is(code),
                     reason,
                 },
+                settings,
             )
         }
         Number::More => stopped(Passed::More, line),
@@ -118,20 +123,20 @@ fn status_code(s: &[u8], at: usize, line: StatusLine) -> StatusLineRead
 }
 
 // The space behind the version, and what follows it.
-fn status_space(s: &[u8], at: usize, line: StatusLine) -> StatusLineRead
-    ensures { λ r. ⌜ tell (r .end) (r .line) ≡ fromSpace default (now (s .entry)) line at ⌝ }
+fn status_space(s: &[u8], at: usize, line: StatusLine, settings: Settings) -> StatusLineRead
+    ensures { λ r. ⌜ tell (r .end) (r .line) ≡ fromSpace (responseRules settings) (now (s .entry)) line at ⌝ }
 {
     let passed = spaces::space(s, at, Error::Version);
     match passed {
-        Passed::At(next) => status_code(s, next, line),
+        Passed::At(next) => status_code(s, next, line, settings),
         Passed::More => stopped(Passed::More, line),
         Passed::Bad(e) => stopped(Passed::Bad(e), line),
     }
 }
 
 // A version and what follows it.
-fn status_version(s: &[u8], at: usize, line: StatusLine) -> StatusLineRead
-    ensures { λ r. ⌜ tell (r .end) (r .line) ≡ statusFromVersion default (now (s .entry)) line at ⌝ }
+fn status_version(s: &[u8], at: usize, line: StatusLine, settings: Settings) -> StatusLineRead
+    ensures { λ r. ⌜ tell (r .end) (r .line) ≡ statusFromVersion (responseRules settings) (now (s .entry)) line at ⌝ }
 {
     let found = versions::version(s, at);
     match found {
@@ -146,6 +151,7 @@ fn status_version(s: &[u8], at: usize, line: StatusLine) -> StatusLineRead
                     code,
                     reason,
                 },
+                settings,
             )
         }
         Number::More => stopped(Passed::More, line),
@@ -154,8 +160,8 @@ fn status_version(s: &[u8], at: usize, line: StatusLine) -> StatusLineRead
 }
 
 // Empty lines and a status line, from the start of the input.
-pub fn status_line(s: &[u8]) -> StatusLineRead
-    ensures { λ r. ⌜ tell (r .end) (r .line) ≡ statusLine default (now (s .entry)) 0 ⌝ }
+pub fn status_line(s: &[u8], settings: Settings) -> StatusLineRead
+    ensures { λ r. ⌜ tell (r .end) (r .line) ≡ statusLine (responseRules settings) (now (s .entry)) 0 ⌝ }
 {
     let line = StatusLine {
         version: KnownNumber::NotYet,
@@ -164,7 +170,7 @@ pub fn status_line(s: &[u8]) -> StatusLineRead
     };
     let passed = parts::empty_lines(s, 0);
     match passed {
-        Passed::At(next) => status_version(s, next, line),
+        Passed::At(next) => status_version(s, next, line, settings),
         Passed::More => stopped(Passed::More, line),
         Passed::Bad(e) => stopped(Passed::Bad(e), line),
     }

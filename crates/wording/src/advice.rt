@@ -42,7 +42,7 @@ fn request_line(page: &mut Page, at: usize, place: InRequestLine) -> usize {
             b"have the sender write one space alone behind the method, as in POST /orders HTTP/1.1
 ",
         ),
-        InRequestLine::Target => put(
+        InRequestLine::Target | InRequestLine::SpacedTarget => put(
             page,
             at,
             b"have the sender write the line as POST /orders HTTP/1.1, then CR LF, with nothing else in it
@@ -54,7 +54,7 @@ fn request_line(page: &mut Page, at: usize, place: InRequestLine) -> usize {
             b"have the sender write each byte of a target from 0x80 on as %XX, as in /orders/gr%C3%B6%C3%9Fe
 ",
         ),
-        InRequestLine::Version => put(
+        InRequestLine::Version | InRequestLine::SpacedVersion => put(
             page,
             at,
             b"have the sender speak HTTP/1.1, and write a space in a target as %20

@@ -94,6 +94,13 @@ was-written (needs f l h g) x = never cc
 was-written (unwritable f) x = never cc
 was-written (too-long f g h i) x = never cc
 
+-- a writer of what can't be written leaves the lent bytes alone
+pub refused : {s : List ℕ} {Writable : Type 0} {form old : List ℕ} {r : Writing} {new : List ℕ} → PlainPromise s Writable form old r new → (Writable → ⊥) → (r ≡ Unwritable) × (new ≡ old)
+refused (written f l h e) n = absurd (n f)
+refused (needs f l h g) n = absurd (n f)
+refused (unwritable f) n = (refl, refl)
+refused (too-long f g h i) n = absurd (n f)
+
 -- a writer with room for a form that can be written answers Written
 pub writes : {s : List ℕ} {Writable : Type 0} {form old : List ℕ} {r : Writing} {new : List ℕ} → PlainPromise s Writable form old r new → Writable → length form ≤ length old → r ≡ Written (length form)
 writes (written f l h e) w i = ap Written l

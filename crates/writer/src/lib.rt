@@ -1,9 +1,6 @@
 // The plain form of what was read, written into bytes that the caller lends. It demands nothing of the caller.
 ghost use Rattle.places.specs.Lies.{RequestLies, ResponseLies, BlockLies};
 ghost use Rattle.writer.specs.Promise.{request-form, response-form, block-form, PlainPromise};
-
-mod lines;
-
 use blocks::Block;
 use heads::RequestHead;
 use heads::ResponseHead;
@@ -24,14 +21,14 @@ pub fn plain_request(s: &[u8], head: RequestHead, slots: &[usize], out: &mut [u8
         return Writing::Unwritable;
     }
     // a byte of room is enough to learn the length
-    let n = lines::request(&mut [0], s, head, slots);
+    let n = formlines::request(&mut [0], s, head, slots);
     if n == usize::MAX {
         return Writing::TooLong;
     }
     if out.len() < n {
         return Writing::Needs(n);
     }
-    lines::request(out, s, head, slots);
+    formlines::request(out, s, head, slots);
     Writing::Written(n)
 }
 
@@ -41,14 +38,14 @@ pub fn plain_response(s: &[u8], head: ResponseHead, slots: &[usize], out: &mut [
     if !places::response(s, head, slots) {
         return Writing::Unwritable;
     }
-    let n = lines::response(&mut [0], s, head, slots);
+    let n = formlines::response(&mut [0], s, head, slots);
     if n == usize::MAX {
         return Writing::TooLong;
     }
     if out.len() < n {
         return Writing::Needs(n);
     }
-    lines::response(out, s, head, slots);
+    formlines::response(out, s, head, slots);
     Writing::Written(n)
 }
 
@@ -59,13 +56,13 @@ pub fn plain_headers(s: &[u8], block: Block, slots: &[usize], out: &mut [u8]) ->
         return Writing::Unwritable;
     }
     let count = block.count;
-    let n = lines::fields(&mut [0], 0, s, slots, count);
+    let n = formlines::fields(&mut [0], 0, s, slots, count);
     if n == usize::MAX {
         return Writing::TooLong;
     }
     if out.len() < n {
         return Writing::Needs(n);
     }
-    lines::fields(out, 0, s, slots, count);
+    formlines::fields(out, 0, s, slots, count);
     Writing::Written(n)
 }

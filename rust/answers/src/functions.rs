@@ -30,12 +30,6 @@ extern "C" {
     pub fn hr_chunk_size(start: *const u8, length: usize, out: *mut u64) -> u32;
 }
 
-/// All settings off.
-pub const DEFAULT: u32 = 0;
-
-/// The bit of the setting under which a target has visible ASCII only.
-pub const ASCII_TARGETS: u32 = 128;
-
 /// What a function returns.
 pub const COMPLETE: u32 = 0;
 pub const INCOMPLETE: u32 = 1;
@@ -64,6 +58,7 @@ pub fn number(error: HeadError) -> u32 {
 #[cfg(test)]
 mod tests {
     use super::*;
+    use crate::bits;
     use std::collections::HashMap;
 
     const HEADER: &str = include_str!("../../../include/headreader.h");
@@ -90,8 +85,22 @@ mod tests {
             ("HR_KNOWS_VERSION", VERSION),
             ("HR_KNOWS_CODE", CODE),
             ("HR_KNOWS_REASON", REASON),
-            ("HR_ASCII_TARGETS", u64::from(ASCII_TARGETS)),
         ];
+        let settings = [
+            (
+                "HR_SPACES_AFTER_HEADER_NAME",
+                bits::SPACES_AFTER_HEADER_NAME,
+            ),
+            ("HR_MULTILINE_HEADERS", bits::MULTILINE_HEADERS),
+            ("HR_SPACES_IN_REQUEST_LINE", bits::SPACES_IN_REQUEST_LINE),
+            ("HR_SPACES_IN_STATUS_LINE", bits::SPACES_IN_STATUS_LINE),
+            (
+                "HR_SPACE_BEFORE_FIRST_HEADER_NAME",
+                bits::SPACE_BEFORE_FIRST_HEADER_NAME,
+            ),
+            ("HR_ASCII_TARGETS", bits::ASCII_TARGETS),
+        ];
+        numbers.extend(settings.map(|(name, bit)| (name, u64::from(bit))));
         let names = [
             "HR_HEADER_NAME",
             "HR_HEADER_VALUE",

@@ -6,6 +6,7 @@
 
 mod answer;
 mod answer_text;
+pub mod bits;
 mod call;
 pub mod differences;
 mod example;

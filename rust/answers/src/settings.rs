@@ -54,6 +54,17 @@ impl Settings {
             ignore_invalid_headers_in_requests: switches[6],
         }
     }
+
+    /// The settings that some bits stand for; a bit that is none of httparse's has no effect.
+    pub fn from_bits(bits: u32) -> Settings {
+        Settings::from_switches(std::array::from_fn(|index| bits >> index & 1 == 1))
+    }
+
+    /// The bits of [`crate::bits`] that stand for the settings.
+    pub fn bits(&self) -> u32 {
+        let bit = |(index, on)| u32::from(on) << index;
+        self.switches().into_iter().enumerate().map(bit).sum()
+    }
 }
 
 impl fmt::Display for Settings {
@@ -110,14 +121,28 @@ fn index_of(name: &str) -> Result<usize, String> {
 #[cfg(test)]
 mod tests {
     use super::*;
+    use crate::bits;
 
     #[test]
     fn every_combination_is_read_as_it_is_written() {
         for bits in 0..1 << NAMES.len() {
-            let switches = std::array::from_fn(|index| bits >> index & 1 == 1);
-            let settings = Settings::from_switches(switches);
-            assert_eq!(settings.switches(), switches);
+            let settings = Settings::from_bits(bits);
+            assert_eq!(settings.bits(), bits);
             assert_eq!(settings.to_string().parse(), Ok(settings));
+        }
+    }
+
+    #[test]
+    fn each_bit_is_its_setting() {
+        for (bit, name) in [
+            (bits::SPACES_AFTER_HEADER_NAME, NAMES[0]),
+            (bits::MULTILINE_HEADERS, NAMES[1]),
+            (bits::SPACES_IN_REQUEST_LINE, NAMES[2]),
+            (bits::SPACES_IN_STATUS_LINE, NAMES[3]),
+            (bits::SPACE_BEFORE_FIRST_HEADER_NAME, NAMES[4]),
+            (bits::ASCII_TARGETS, ALL_OFF),
+        ] {
+            assert_eq!(Settings::from_bits(bit).to_string(), name);
         }
     }
 

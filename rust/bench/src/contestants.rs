@@ -1,7 +1,8 @@
 //! What is measured, each as two C functions of one form.
 
 use crate::heads::Kind;
-use answers::functions::{hr_request, hr_response, DEFAULT};
+use answers::bits::DEFAULT;
+use answers::functions::{hr_request, hr_response};
 use std::ffi::{c_char, c_int, c_void, CStr, CString};
 use std::hint::black_box;
 use std::mem::{transmute, MaybeUninit};

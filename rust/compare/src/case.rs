@@ -1,6 +1,7 @@
 //! One call to compare.
 
 use crate::numbers::SLOT;
+use answers::bits::ASCII_TARGETS;
 use answers::{Call, Query, Settings};
 use std::fmt;
 
@@ -20,8 +21,8 @@ pub struct Case<'input> {
     pub slots: usize,
     /// Numbers lent behind the last whole slot, fewer than a slot has.
     pub remainder: usize,
-    /// Whether the target of a request must be plain ASCII; the other calls do not care.
-    pub ascii_targets: bool,
+    /// The bits of the settings, of which each call cares for some.
+    pub settings: u32,
     pub input: &'input [u8],
 }
 
@@ -31,10 +32,15 @@ impl<'input> Case<'input> {
         self.slots * SLOT + self.remainder
     }
 
+    /// Whether a setting is on.
+    pub fn has(&self, setting: u32) -> bool {
+        self.settings & setting != 0
+    }
+
     /// The same call on all that stands in front of the first byte beyond ASCII, if there is such a
     /// byte and the target may not have it.
     pub fn ascii_part(&self) -> Option<Case<'input>> {
-        if !self.ascii_targets || self.call != Call::Request {
+        if !self.has(ASCII_TARGETS) || self.call != Call::Request {
             return None;
         }
         let end = self.input.iter().position(|byte| !byte.is_ascii())?;
@@ -46,7 +52,7 @@ impl<'input> Case<'input> {
     pub fn query(&self) -> Query {
         Query {
             call: self.call,
-            settings: Settings::default(),
+            settings: Settings::from_bits(self.settings),
             slots: self.slots,
             input: self.input.to_vec(),
         }
@@ -57,7 +63,7 @@ impl<'input> Case<'input> {
 impl fmt::Display for Case<'_> {
     fn fmt(&self, formatter: &mut fmt::Formatter<'_>) -> fmt::Result {
         write!(formatter, "{}", self.query())?;
-        if self.ascii_targets {
+        if self.has(ASCII_TARGETS) {
             formatter.write_str("\nwith targets in plain ASCII, and httparse behind a filter")?;
         }
         Ok(())

@@ -1,7 +1,7 @@
 //! Compares two libraries on one case after another, and tells the shortest input on which they differ.
 
 use crate::numbers::Numbers;
-use crate::plain::RoundTrip;
+use crate::plain::{is_folded, RoundTrip};
 use crate::position::{is_error, Search};
 use crate::shrink::shrink;
 use crate::{expected, ours, text, Case, Tally};
@@ -50,7 +50,10 @@ impl Comparer {
             self.tally.count_position();
         }
         if is_complete_head(case, &self.expected) {
-            self.send_round(case);
+            match is_folded(case, &self.expected) {
+                true => self.refuse(case),
+                false => self.send_round(case),
+            }
         }
     }
 
@@ -62,6 +65,14 @@ impl Comparer {
             let found = self.search.by_every_beginning(case, self.expected.status);
             assert_eq!(found, self.expected.out.numbers()[0], "{case}");
         }
+    }
+
+    /// Panics if anything is written of a complete head that has no plain form.
+    fn refuse(&mut self, case: &Case) {
+        if let Err(wrong) = self.round_trip.refuse(case, &self.expected) {
+            panic!("a head without a plain form was written:\n{case}\n{wrong}");
+        }
+        self.tally.count_folded();
     }
 
     /// Sends a complete head through its plain form and back; if it is lost, panics with the shortest that is.
@@ -85,7 +96,8 @@ impl Comparer {
         self.expected.lend(case.room());
         expected::read(case, &mut self.expected);
         let complete = is_complete_head(case, &self.expected);
-        complete.then(|| self.round_trip.go(case, &self.expected).err())?
+        let has_form = complete && !is_folded(case, &self.expected);
+        has_form.then(|| self.round_trip.go(case, &self.expected).err())?
     }
 
     pub fn tally(&self) -> Tally {
@@ -130,7 +142,7 @@ impl Comparer {
     }
 }
 
-/// What has a plain form.
+/// What has a plain form, unless a value is folded.
 fn is_complete_head(case: &Case, answer: &Numbers) -> bool {
     answer.status == 0 && case.call != Call::ChunkSize
 }
@@ -139,11 +151,13 @@ fn is_complete_head(case: &Case, answer: &Numbers) -> bool {
 mod tests {
     use super::*;
     use crate::numbers::UNTOUCHED;
+    use crate::starts::places;
     use crate::theirs;
+    use answers::bits::{self, ASCII_TARGETS, DEFAULT};
 
     /// Every call, complete, incomplete and refused, with written slots, free ones and a remainder,
-    /// and some under the setting.
-    const CASES: [Case; 16] = [
+    /// and some under settings.
+    const CASES: [Case; 22] = [
         case(Call::Request, b"GET / HTTP/1.1\r\nA: b\r\n\r\n"),
         case(Call::Request, b"GET / HTTP/1.0\nA: b\n"),
         case(Call::Request, b"GET /\xff "),
@@ -159,10 +173,37 @@ mod tests {
         ascii(b"GET /\xc3\xa9 HTTP/1.1\r\nA: b\r\n\r\n"),
         ascii(b"GET /\xff"),
         ascii(b"GET / HTTP/1.1\r\nA: \xff\r\n\r\n"),
-        Case {
-            ascii_targets: true,
-            ..case(Call::Response, b"HTTP/1.1 200 \xff\r\nA: b\r\n")
-        },
+        with(
+            ASCII_TARGETS,
+            Call::Response,
+            b"HTTP/1.1 200 \xff\r\nA: b\r\n",
+        ),
+        with(
+            bits::SUPPORTED,
+            Call::Request,
+            b"GET  /  HTTP/1.1\n A: b\n\n",
+        ),
+        with(
+            bits::SUPPORTED,
+            Call::Response,
+            b"HTTP/1.1  200  OK\n\tA : b\n",
+        ),
+        with(
+            bits::SUPPORTED,
+            Call::Response,
+            b"HTTP/1.1 200\nA:b\n c\nD:\n\n",
+        ),
+        with(bits::SUPPORTED, Call::Response, b"HTTP/1.1 200\n \t\n"),
+        with(
+            bits::SUPPORTED,
+            Call::Response,
+            b"HTTP/1.1 200\nA:\nB:\nC:\n d\n:",
+        ),
+        with(
+            bits::SUPPORTED,
+            Call::Request,
+            b"GET / HTTP/1.1\n A:\nB:\nC:\n",
+        ),
     ];
 
     const fn case(call: Call, input: &'static [u8]) -> Case<'static> {
@@ -170,17 +211,21 @@ mod tests {
             call,
             slots: 2,
             remainder: 3,
-            ascii_targets: false,
+            settings: DEFAULT,
             input,
+        }
+    }
+
+    const fn with(settings: u32, call: Call, input: &'static [u8]) -> Case<'static> {
+        Case {
+            settings,
+            ..case(call, input)
         }
     }
 
     /// A request whose target must be ASCII.
     const fn ascii(input: &'static [u8]) -> Case<'static> {
-        Case {
-            ascii_targets: true,
-            ..case(Call::Request, input)
-        }
+        with(ASCII_TARGETS, Call::Request, input)
     }
 
     /// httparse, with the positions of its errors.
@@ -190,6 +235,14 @@ mod tests {
             let position = Search::default().by_every_beginning(case, numbers.status);
             numbers.out.numbers_mut()[0] = position;
         }
+    }
+
+    /// What httparse answers to a case.
+    fn answer(case: &Case) -> Numbers {
+        let mut numbers = Numbers::default();
+        numbers.lend(case.room());
+        httparse(case, &mut numbers);
+        numbers
     }
 
     /// Whether httparse's own answer is told from one that was changed.
@@ -221,9 +274,7 @@ mod tests {
     /// Changes each number alone, the guards' too, in ways in which a library may be wrong.
     fn assert_each_is_noticed(lent: fn(&mut Numbers) -> &mut [u64]) {
         for case in &CASES {
-            let mut expected = Numbers::default();
-            expected.lend(case.room());
-            httparse(case, &mut expected);
+            let mut expected = answer(case);
             for (place, &right) in lent(&mut expected).iter().enumerate() {
                 for wrong in [right ^ 1, right.wrapping_add(1), 0, UNTOUCHED] {
                     let noticed = notices(case, move |numbers| lent(numbers)[place] = wrong);
@@ -268,9 +319,7 @@ mod tests {
     #[test]
     fn every_other_position_is_noticed() {
         for case in &CASES {
-            let mut expected = Numbers::default();
-            expected.lend(case.room());
-            httparse(case, &mut expected);
+            let expected = answer(case);
             if !is_error(expected.status) {
                 continue;
             }
@@ -320,10 +369,10 @@ slots=[] and 11 untouched numbers"
             comparer.compare_by_every_beginning(case);
         }
         comparer.tally().assert_all_placed();
-        assert!(comparer
-            .tally()
-            .to_string()
-            .contains(" 9 errors), 9 positions"));
+        let errors = CASES.iter().filter(|case| is_error(answer(case).status));
+        let count = errors.count();
+        let told = format!(" {count} errors), {count} positions");
+        assert!(comparer.tally().to_string().contains(&told));
     }
 
     #[test]
@@ -360,19 +409,19 @@ slots=[] and 11 untouched numbers"
         });
     }
 
-    /// Headreader with the setting off, whatever the case says.
-    fn never_ascii(case: &Case, numbers: &mut Numbers) {
+    /// Headreader with all settings off, whatever the case says.
+    fn never(case: &Case, numbers: &mut Numbers) {
         let off = Case {
-            ascii_targets: false,
+            settings: DEFAULT,
             ..*case
         };
         ours::read(&off, numbers);
     }
 
-    /// Headreader with the setting on, whatever the case says.
-    fn always_ascii(case: &Case, numbers: &mut Numbers) {
+    /// Headreader with all settings on, whatever the case says.
+    fn always(case: &Case, numbers: &mut Numbers) {
         let on = Case {
-            ascii_targets: true,
+            settings: bits::SUPPORTED | ASCII_TARGETS,
             ..*case
         };
         ours::read(&on, numbers);
@@ -399,10 +448,10 @@ slots=[] and 11 untouched numbers"
     fn a_setting_that_is_wrong_is_noticed() {
         let off = case(Call::Request, b"GET /\xc3\xa9 HTTP/1.1\n\n");
         for (library, case) in [
-            (never_ascii as fn(&Case, &mut Numbers), ascii(off.input)),
-            (never_ascii, ascii(b"GET \x80")),
-            (always_ascii, off),
-            (always_ascii, case(Call::Request, b"GET \x80")),
+            (never as fn(&Case, &mut Numbers), ascii(off.input)),
+            (never, ascii(b"GET \x80")),
+            (always, off),
+            (always, case(Call::Request, b"GET \x80")),
             (ascii_at_the_space, ascii(b"GET /\xc3\xa9")),
             (ascii_at_the_space, ascii(b"GET /\xff")),
             (ascii_everywhere, ascii(b"GET / HTTP/1.1\nA: \xff\n\n")),
@@ -410,6 +459,31 @@ slots=[] and 11 untouched numbers"
         ] {
             assert!(Comparer::of("a wrong setting", library).differ(&case));
             assert!(!Comparer::of_headreader().differ(&case));
+        }
+    }
+
+    /// With a byte that a setting is about at each of its places, and with all others as they are.
+    #[test]
+    fn a_setting_of_httparse_that_is_wrong_is_noticed() {
+        for call in [Call::Request, Call::Response] {
+            for setting in bits::singles(bits::of(call)) {
+                let noticed = places(call, setting).iter().filter(|(start, rest)| {
+                    let input = [start, &b" "[..], rest].concat();
+                    let off = Case {
+                        input: &input,
+                        ..case(call, b"")
+                    };
+                    let on = Case {
+                        settings: setting,
+                        ..off
+                    };
+                    assert!(!Comparer::of_headreader().differ(&off));
+                    assert!(!Comparer::of_headreader().differ(&on));
+                    Comparer::of("never on", never).differ(&on)
+                        && Comparer::of("never off", always).differ(&off)
+                });
+                assert!(noticed.count() > 1, "{call}: {setting}");
+            }
         }
     }
 
@@ -425,6 +499,6 @@ slots=[] and 11 untouched numbers"
     )]
     fn a_difference_by_the_setting_is_told_with_it() {
         let cut = ascii(b"\r\nGET /caf\xe9");
-        Comparer::of("a wrong setting", never_ascii).compare(&cut);
+        Comparer::of("a wrong setting", never).compare(&cut);
     }
 }

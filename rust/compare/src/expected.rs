@@ -37,6 +37,7 @@ mod tests {
     use crate::numbers::{SLOT, UNTOUCHED};
     use crate::starts::Start;
     use crate::strings::strings;
+    use answers::bits::{ASCII_TARGETS, DEFAULT};
     use answers::Call;
 
     fn case(call: Call, input: &[u8]) -> Case<'_> {
@@ -44,7 +45,7 @@ mod tests {
             call,
             slots: 1,
             remainder: 0,
-            ascii_targets: true,
+            settings: ASCII_TARGETS,
             input,
         }
     }
@@ -118,7 +119,7 @@ mod tests {
     fn off_it_is_httparse() {
         for input in [&b"GET /\x80"[..], b"GET /\xff ", b"GET /\xc3\xa9 "] {
             let off = Case {
-                ascii_targets: false,
+                settings: DEFAULT,
                 ..case(Call::Request, input)
             };
             assert!(answer(&off, read) == answer(&off, theirs::read));

@@ -1,9 +1,9 @@
 //! Realistic heads made by a rule: good as they stand, of every call and many sizes.
 
 use crate::Random;
-use answers::Call;
+use answers::{bits, Call};
 
-/// A head that httparse accepts, and perhaps a body behind it.
+/// A head that httparse accepts with the settings of its shape, and perhaps a body behind it.
 pub struct Head {
     pub call: Call,
     /// How many headers it has.
@@ -20,6 +20,8 @@ pub struct Shape {
     pub length: usize,
     /// The line ends to choose from.
     pub line_ends: &'static [&'static [u8]],
+    /// The settings of which it makes use.
+    pub settings: u32,
 }
 
 /// The most bytes of any head.
@@ -39,7 +41,7 @@ const SIZES: [(usize, usize); 8] = [
 
 const LINE_ENDS: [&[&[u8]]; 3] = [&[b"\r\n"], &[b"\n"], &[b"\r\n", b"\n"]];
 
-/// Every call with every size and every line end, and chunk size lines.
+/// Every call with every size and every line end, and chunk size lines; none needs a setting.
 pub fn shapes() -> Vec<Shape> {
     let mut shapes = Vec::new();
     for (headers, length) in SIZES {
@@ -49,6 +51,7 @@ pub fn shapes() -> Vec<Shape> {
                 headers,
                 length,
                 line_ends,
+                settings: bits::DEFAULT,
             }));
         }
     }
@@ -57,15 +60,30 @@ pub fn shapes() -> Vec<Shape> {
         headers: 0,
         length: 0,
         line_ends: LINE_ENDS[0],
+        settings: bits::DEFAULT,
     });
     shapes
 }
 
+/// The same shapes of the calls that have settings, with all that these allow.
+pub fn lenient_shapes() -> Vec<Shape> {
+    let mut shapes = shapes();
+    for shape in &mut shapes {
+        shape.settings = bits::of(shape.call);
+    }
+    shapes.retain(|shape| shape.settings != bits::DEFAULT);
+    shapes
+}
+
 /// Each shape as often as is said of it, with a seed for each.
-pub fn jobs(seed: u64, how_many: impl Fn(&Shape) -> usize) -> Vec<(Shape, u64)> {
+pub fn jobs(
+    shapes: Vec<Shape>,
+    seed: u64,
+    how_many: impl Fn(&Shape) -> usize,
+) -> Vec<(Shape, u64)> {
     let mut seeds = Random::new(seed);
     let mut jobs = Vec::new();
-    for shape in shapes() {
+    for shape in shapes {
         jobs.extend((0..how_many(&shape)).map(|_| (shape, seeds.number())));
     }
     jobs
@@ -96,6 +114,9 @@ const TARGETS: &[&[u8]] = &[
 const VERSIONS: &[&[u8]] = &[b"HTTP/1.1", b"HTTP/1.0"];
 
 const CODES: &[&[u8]] = &[b"200", b"100", b"304", b"404", b"503", b"000", b"999"];
+
+/// What may stand for the space between the parts of a start line, where several may.
+const SPACES: &[&[u8]] = &[b" ", b"  ", b"                     "];
 
 /// What may stand between code and line end, the space too.
 const REASONS: &[&[u8]] = &[
@@ -156,6 +177,7 @@ const BODIES: &[&[u8]] = &[b"", b"", b"body", b"\r\n\r\n", b"\x00\xff"];
 /// A head of a shape, with what is left open chosen at random.
 pub fn make(shape: &Shape, random: &mut Random) -> Head {
     let mut bytes = first_line(shape, random);
+    bytes.extend(shape.blanks(bits::SPACE_BEFORE_FIRST_HEADER_NAME, random));
     let last_line_end = random.choose(shape.line_ends);
     for left in (1..=shape.headers).rev() {
         let rest = shape
@@ -174,6 +196,45 @@ pub fn make(shape: &Shape, random: &mut Random) -> Head {
     }
 }
 
+impl Shape {
+    /// What stands where a setting allows blanks, and nothing does without it.
+    fn blanks(&self, setting: u32, random: &mut Random) -> &'static [u8] {
+        match self.settings & setting {
+            0 => b"",
+            _ => random.choose(BLANKS),
+        }
+    }
+
+    /// What stands where a setting allows several spaces, and one does without it.
+    fn spaces(&self, setting: u32, random: &mut Random) -> &'static [u8] {
+        match self.settings & setting {
+            0 => b" ",
+            _ => random.choose(SPACES),
+        }
+    }
+
+    /// What goes on with a value in further lines, where a setting allows that.
+    fn folds(&self, random: &mut Random) -> Vec<u8> {
+        let count = match self.settings & bits::MULTILINE_HEADERS {
+            0 => 0,
+            _ => random.choose(&[0, 1, 1, 3]),
+        };
+        (0..count).flat_map(|_| self.fold(random)).collect()
+    }
+
+    /// A line end within a value, and what stands in the line behind it.
+    fn fold(&self, random: &mut Random) -> Vec<u8> {
+        [
+            random.choose(BLANKS),
+            random.choose(self.line_ends),
+            random.choose(&[b" ", b"\t"]),
+            random.choose(BLANKS),
+            random.choose(VALUES),
+        ]
+        .concat()
+    }
+}
+
 /// The start line, behind empty lines or not; of a chunk size line all but its end.
 fn first_line(shape: &Shape, random: &mut Random) -> Vec<u8> {
     let line_end = random.choose(shape.line_ends);
@@ -182,9 +243,9 @@ fn first_line(shape: &Shape, random: &mut Random) -> Vec<u8> {
         Call::Request => [
             &empty_lines[..],
             random.choose(METHODS),
-            b" ",
+            shape.spaces(bits::SPACES_IN_REQUEST_LINE, random),
             random.choose(TARGETS),
-            b" ",
+            shape.spaces(bits::SPACES_IN_REQUEST_LINE, random),
             random.choose(VERSIONS),
             line_end,
         ]
@@ -192,7 +253,7 @@ fn first_line(shape: &Shape, random: &mut Random) -> Vec<u8> {
         Call::Response => [
             &empty_lines[..],
             random.choose(VERSIONS),
-            b" ",
+            shape.spaces(bits::SPACES_IN_STATUS_LINE, random),
             random.choose(CODES),
             random.choose(REASONS),
             line_end,
@@ -207,9 +268,11 @@ fn first_line(shape: &Shape, random: &mut Random) -> Vec<u8> {
 fn header_line(shape: &Shape, length: usize, random: &mut Random) -> Vec<u8> {
     let mut line = [
         random.choose(NAMES),
+        shape.blanks(bits::SPACES_AFTER_HEADER_NAME, random),
         b":",
         random.choose(BLANKS),
         random.choose(VALUES),
+        &shape.folds(random),
     ]
     .concat();
     let end = [random.choose(BLANKS), random.choose(shape.line_ends)].concat();
@@ -225,12 +288,12 @@ mod tests {
     use crate::numbers::Numbers;
     use crate::{theirs, Case};
 
-    fn answer(head: &Head) -> Numbers {
+    fn answer(head: &Head, settings: u32) -> Numbers {
         let case = Case {
             call: head.call,
             slots: head.headers,
             remainder: 0,
-            ascii_targets: false,
+            settings,
             input: &head.bytes,
         };
         let mut numbers = Numbers::default();
@@ -242,10 +305,10 @@ mod tests {
     #[test]
     fn every_head_is_good() {
         let mut random = Random::new(1);
-        for shape in shapes() {
+        for shape in shapes().into_iter().chain(lenient_shapes()) {
             for _ in 0..50 {
                 let head = make(&shape, &mut random);
-                let numbers = answer(&head);
+                let numbers = answer(&head, shape.settings);
                 assert_eq!(numbers.status, 0, "{shape:?}");
                 if head.call != Call::ChunkSize {
                     assert_eq!(numbers.out.numbers()[1], head.headers as u64, "{shape:?}");
@@ -260,7 +323,22 @@ mod tests {
         for shape in shapes().iter().filter(|shape| shape.length == LONGEST) {
             let head = make(shape, &mut random);
             assert_eq!(head.bytes.len(), LONGEST, "{shape:?}");
-            assert_eq!(answer(&head).out.numbers()[0], LONGEST as u64, "{shape:?}");
+            let end = answer(&head, shape.settings).out.numbers()[0];
+            assert_eq!(end, LONGEST as u64, "{shape:?}");
+        }
+    }
+
+    /// Every setting is made use of: without it, some head is not read as it is with all of them.
+    #[test]
+    fn every_setting_makes_a_difference() {
+        let mut random = Random::new(1);
+        for shape in lenient_shapes().iter().filter(|shape| shape.headers == 3) {
+            let heads: Vec<Head> = (0..20).map(|_| make(shape, &mut random)).collect();
+            for setting in bits::singles(shape.settings) {
+                let without = shape.settings & !setting;
+                let differs = |head: &Head| answer(head, shape.settings) != answer(head, without);
+                assert!(heads.iter().any(differs), "{shape:?}: {setting}");
+            }
         }
     }
 }

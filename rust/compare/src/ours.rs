@@ -2,9 +2,7 @@
 
 use crate::numbers::Numbers;
 use crate::Case;
-use answers::functions::{
-    hr_chunk_size, hr_headers, hr_request, hr_response, ASCII_TARGETS, DEFAULT,
-};
+use answers::functions::{hr_chunk_size, hr_headers, hr_request, hr_response};
 use answers::Call;
 
 #[cfg(test)]
@@ -20,7 +18,7 @@ pub fn read(case: &Case, numbers: &mut Numbers) {
     let (start, length) = (case.input.as_ptr(), case.input.len());
     let (slots, room) = (numbers.slots.pointer(), numbers.slots.numbers().len());
     let out = numbers.out.pointer();
-    let settings = settings(case);
+    let settings = case.settings;
     // SAFETY: each pointer is to as many live elements as its length says, eight for `out`, and
     // those to be written overlap nothing.
     numbers.status = unsafe {
@@ -31,12 +29,4 @@ pub fn read(case: &Case, numbers: &mut Numbers) {
             Call::ChunkSize => hr_chunk_size(start, length, out),
         }
     };
-}
-
-/// The bits of the settings.
-fn settings(case: &Case) -> u32 {
-    match case.ascii_targets {
-        true => ASCII_TARGETS,
-        false => DEFAULT,
-    }
 }

@@ -4,9 +4,10 @@ mod form;
 mod round_trip;
 
 use crate::numbers::Numbers;
+use crate::Case;
 use answers::Call;
 // links libharness.a
-pub use form::form;
+pub use form::{form, is_folded};
 use harness as _;
 pub use round_trip::RoundTrip;
 
@@ -50,19 +51,14 @@ pub const UNTOUCHED: u8 = 0xA5;
 /// How many bytes stand on either side of the lent ones; no writer may touch them.
 const GUARD: usize = 8;
 
-/// Writes the plain form of an answer into the `lent` bytes that `out` has when it returns.
+/// Writes the plain form of what a case was answered into the `lent` bytes that `out` has when it
+/// returns.
 ///
 /// Panics if a byte before or behind them was touched.
-pub fn write(
-    call: Call,
-    input: &[u8],
-    answer: &Numbers,
-    out: &mut Vec<u8>,
-    lent: usize,
-) -> Written {
+pub fn write(case: &Case, answer: &Numbers, out: &mut Vec<u8>, lent: usize) -> Written {
     out.clear();
     out.resize(GUARD + lent + GUARD, UNTOUCHED);
-    let writer = match call {
+    let writer = match case.call {
         Call::Request => harness_plain_request,
         Call::Response => harness_plain_response,
         _ => harness_plain_headers,
@@ -73,8 +69,8 @@ pub fn write(
     // numbers and one for the size, and those to be written overlap nothing.
     let kind = unsafe {
         writer(
-            input.as_ptr(),
-            input.len(),
+            case.input.as_ptr(),
+            case.input.len(),
             slots.as_ptr(),
             slots.len(),
             answer.status,

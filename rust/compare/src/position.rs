@@ -62,15 +62,18 @@ impl Search {
     }
 
     /// Whether the byte at a place is what the position is of: the bytes before it are incomplete,
-    /// and with it they are the error; or they fill the slots, and a header without one begins there.
+    /// and with it they are the error, or else fill the slots, and a header without one begins there.
     fn is_position(&mut self, case: &Case, status: u32, place: usize) -> bool {
         if self.status(&beginning(case, place)) != INCOMPLETE {
             return false;
         }
+        let with_it = self.status(&beginning(case, place + 1));
         if status == number(HeadError::TooManyHeaders) {
-            return self.given() == case.slots && self.header_without_slot(case) == Some(place);
+            return with_it == INCOMPLETE
+                && self.given() == case.slots
+                && self.header_without_slot(case) == Some(place);
         }
-        self.status(&beginning(case, place + 1)) == status
+        with_it == status
     }
 
     /// The position of an error that the byte at a place decided.
@@ -145,7 +148,7 @@ fn beginning<'input>(case: &Case<'input>, length: usize) -> Case<'input> {
 struct Found {
     call: Call,
     slots: usize,
-    ascii_targets: bool,
+    settings: u32,
     status: u32,
     position: u64,
     /// Bytes that are this error: their least beginning that is one is also that of all that begins
@@ -155,7 +158,7 @@ struct Found {
 
 impl Found {
     fn new(case: &Case, status: u32, position: u64) -> Found {
-        // A header without a slot is an error only when it is whole.
+        // A header without a slot is an error only behind its line end, and with folds a byte later.
         let end = match status == number(HeadError::TooManyHeaders) {
             true => case.input.len(),
             false => position as usize + 1,
@@ -163,7 +166,7 @@ impl Found {
         Found {
             call: case.call,
             slots: case.slots,
-            ascii_targets: case.ascii_targets,
+            settings: case.settings,
             status,
             position,
             bytes: case.input[..end].to_vec(),
@@ -174,7 +177,7 @@ impl Found {
     fn is_also_in(&self, case: &Case, status: u32) -> bool {
         self.call == case.call
             && self.slots == case.slots
-            && self.ascii_targets == case.ascii_targets
+            && self.settings == case.settings
             && self.status == status
             && case.input.starts_with(&self.bytes)
     }
@@ -183,26 +186,30 @@ impl Found {
 #[cfg(test)]
 mod tests {
     use super::*;
+    use answers::bits::{
+        ASCII_TARGETS, DEFAULT, MULTILINE_HEADERS, SPACES_IN_REQUEST_LINE,
+        SPACE_BEFORE_FIRST_HEADER_NAME,
+    };
 
     const fn case(call: Call, slots: usize, input: &'static [u8]) -> Case<'static> {
         Case {
             call,
             slots,
             remainder: 0,
-            ascii_targets: false,
+            settings: DEFAULT,
             input,
         }
     }
 
-    const fn ascii(case: Case<'static>) -> Case<'static> {
-        Case {
-            ascii_targets: true,
-            ..case
-        }
+    const fn with(settings: u32, case: Case<'static>) -> Case<'static> {
+        Case { settings, ..case }
     }
 
     /// Four headers, whose names begin at 0, 5, 9 and 14.
     const HEADERS: &[u8] = b"A:b\r\nC:d\nE: f\nG:\n\n";
+
+    /// Two headers, whose names begin at 13 and 20, both folded, and a byte that begins none.
+    const FOLDED: &[u8] = b"HTTP/1.1 200\nA:b\n c\nD:\n\te\n:";
 
     /// Six headers of three bytes each.
     const SIX: &[u8] = b"A:\nB:\nC:\nD:\nE:\nF:\n";
@@ -215,7 +222,7 @@ mod tests {
             7,
         ),
         (
-            ascii(case(Call::Request, 1, b"GET /\xff/ HTTP")),
+            with(ASCII_TARGETS, case(Call::Request, 1, b"GET /\xff/ HTTP")),
             HeadError::Token,
             5,
         ),
@@ -272,6 +279,29 @@ mod tests {
         ),
         (case(Call::Headers, 1, SIX), HeadError::TooManyHeaders, 3),
         (case(Call::Request, 1, b"GET / X"), HeadError::Version, 6),
+        (
+            with(SPACES_IN_REQUEST_LINE, case(Call::Request, 1, b"GET  / X")),
+            HeadError::Version,
+            7,
+        ),
+        (
+            with(
+                SPACE_BEFORE_FIRST_HEADER_NAME,
+                case(Call::Request, 0, b"GET / HTTP/1.1\n \tA:b\n C"),
+            ),
+            HeadError::TooManyHeaders,
+            17,
+        ),
+        (
+            with(MULTILINE_HEADERS, case(Call::Response, 1, FOLDED)),
+            HeadError::TooManyHeaders,
+            20,
+        ),
+        (
+            with(MULTILINE_HEADERS, case(Call::Response, 2, FOLDED)),
+            HeadError::HeaderName,
+            26,
+        ),
         (case(Call::Response, 1, b"GET / X"), HeadError::Version, 0),
     ];
 

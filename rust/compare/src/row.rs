@@ -5,27 +5,25 @@ use crate::position::{is_error, Search};
 use crate::{expected, Case};
 use answers::Call;
 
-extern "C" {
-    fn harness_requests(
-        start: *const u8,
-        length: usize,
-        slots: *mut u64,
-        room: usize,
-        ends: *mut u64,
-        heads: usize,
-        out: *mut u64,
-        ascii_targets: bool,
-    ) -> u32;
-    fn harness_responses(
-        start: *const u8,
-        length: usize,
-        slots: *mut u64,
-        room: usize,
-        ends: *mut u64,
-        heads: usize,
-        out: *mut u64,
-    ) -> u32;
+/// Declares readers of rows, which are all of one form.
+macro_rules! readers {
+    ($($name:ident),*) => {
+        extern "C" {
+            $(fn $name(
+                start: *const u8,
+                length: usize,
+                slots: *mut u64,
+                room: usize,
+                ends: *mut u64,
+                heads: usize,
+                out: *mut u64,
+                settings: u32,
+            ) -> u32;)*
+        }
+    };
 }
+
+readers!(harness_requests, harness_responses);
 
 /// The status of a row that has more heads than there is room for their ends.
 pub const FULL: u32 = 10;
@@ -41,28 +39,26 @@ pub struct Row {
     pub ends: Vec<u64>,
 }
 
-/// What Headreader answers, with this many slots and room for this many ends; the setting is for
-/// requests.
-pub fn ours(call: Call, input: &[u8], slots: usize, heads: usize, ascii_targets: bool) -> Row {
+/// What Headreader answers, with this many slots and room for this many ends.
+pub fn ours(call: Call, input: &[u8], slots: usize, heads: usize, settings: u32) -> Row {
     let [mut lent, mut ends, mut out] = [slots * SLOT, heads, 3].map(Lent::of);
-    let (start, length, room) = (input.as_ptr(), input.len(), slots * SLOT);
-    let (lent_to, ends_to, out_to) = (lent.pointer(), ends.pointer(), out.pointer());
+    let read = match call {
+        Call::Request => harness_requests,
+        _ => harness_responses,
+    };
     // SAFETY: each pointer is to as many live elements as its length says, three for `out`, and
     // those to be written overlap nothing.
     let status = unsafe {
-        match call {
-            Call::Request => harness_requests(
-                start,
-                length,
-                lent_to,
-                room,
-                ends_to,
-                heads,
-                out_to,
-                ascii_targets,
-            ),
-            _ => harness_responses(start, length, lent_to, room, ends_to, heads, out_to),
-        }
+        read(
+            input.as_ptr(),
+            input.len(),
+            lent.pointer(),
+            slots * SLOT,
+            ends.pointer(),
+            heads,
+            out.pointer(),
+            settings,
+        )
     };
     let guarded = [&lent, &ends, &out];
     assert!(guarded.iter().all(|lent| lent.guards_are_untouched()));
@@ -77,7 +73,7 @@ pub fn ours(call: Call, input: &[u8], slots: usize, heads: usize, ascii_targets:
 
 /// What httparse answers when it is called again and again, from each end on, behind the filter where
 /// targets must be plain ASCII.
-pub fn theirs(call: Call, input: &[u8], slots: usize, heads: usize, ascii_targets: bool) -> Row {
+pub fn theirs(call: Call, input: &[u8], slots: usize, heads: usize, settings: u32) -> Row {
     let mut ends = vec![UNTOUCHED; heads];
     let mut numbers = Numbers::default();
     let (mut at, mut count, mut position) = (0, 0, 0);
@@ -92,7 +88,7 @@ pub fn theirs(call: Call, input: &[u8], slots: usize, heads: usize, ascii_target
             call,
             slots,
             remainder: 0,
-            ascii_targets,
+            settings,
             input: &input[at..],
         };
         numbers.lend(case.room());

@@ -1,9 +1,17 @@
 //! Good starts that end in each part of a head, and the bytes that tell most behind them.
 
+use answers::bits::{
+    self, MULTILINE_HEADERS, SPACES_AFTER_HEADER_NAME, SPACES_IN_REQUEST_LINE,
+    SPACES_IN_STATUS_LINE, SPACE_BEFORE_FIRST_HEADER_NAME,
+};
 use answers::Call;
 
 /// Good bytes, and how many more are tried behind them.
 pub type Start = (&'static [u8], usize);
+
+/// A place where a setting has its say: good bytes that end there, and what goes on from there to the
+/// end of a good head.
+pub type Place = (&'static [u8], &'static [u8]);
 
 /// A letter, a digit, all bytes with a meaning of their own, a control byte and one from 0x80 on.
 const HEAD_BYTES: &[u8] = b"a \t:\r\n\x00\x801";
@@ -115,9 +123,123 @@ pub fn starts(call: Call) -> &'static [Start] {
     }
 }
 
+/// Behind the method, its space and two of them; behind the target, its space and two of them.
+const REQUEST_LINES: &[Place] = &[
+    (b"GET", b" / HTTP/1.1\n\n"),
+    (b"\nGET ", b"/ HTTP/1.1\nA: b\n\n"),
+    (b"GET  ", b"/ HTTP/1.1\r\n\r\n"),
+    (b"GET /", b" HTTP/1.1\n\n"),
+    (b"GET / ", b"HTTP/1.1\r\nA: b\r\n\r\n"),
+    (b"GET  /  ", b"HTTP/1.0\n\n"),
+];
+
+/// Behind the version, its space and two of them; behind the code, its space and two of them.
+const STATUS_LINES: &[Place] = &[
+    (b"HTTP/1.1", b" 200 OK\n\n"),
+    (b"\nHTTP/1.1 ", b"200 OK\r\nA: b\r\n\r\n"),
+    (b"HTTP/1.1  ", b"200\n\n"),
+    (b"HTTP/1.1 200", b" OK\nA: b\n\n"),
+    (b"HTTP/1.1 200 ", b"OK\r\nA: b\r\n\r\n"),
+    (b"HTTP/1.1  200  ", b"OK\n\n"),
+];
+
+/// At the start of the first header's line, behind a blank there, and at the start of the second's.
+const REQUEST_FIRST_NAMES: &[Place] = &[
+    (b"GET / HTTP/1.1\r\n", b"A: b\r\n\r\n"),
+    (b"GET / HTTP/1.1\n ", b"A: b\n\n"),
+    (b"GET / HTTP/1.1\nA:b\n", b"C: d\n\n"),
+];
+const RESPONSE_FIRST_NAMES: &[Place] = &[
+    (b"HTTP/1.1 200 OK\r\n", b"A: b\r\n\r\n"),
+    (b"HTTP/1.1 200\n ", b"A: b\n\n"),
+    (b"HTTP/1.1 200\nA:b\n", b"C: d\n\n"),
+];
+
+/// Behind a name, behind blanks there, and behind the colon.
+const RESPONSE_NAMES: &[Place] = &[
+    (b"HTTP/1.1 200 OK\r\nA", b": b\r\n\r\n"),
+    (b"HTTP/1.1 200\nA ", b":b\n\n"),
+    (b"HTTP/1.1 200\nA\t:", b"b\n\n"),
+];
+
+/// Behind the colon, within a value, behind its line end and behind a fold, with something in the value
+/// or nothing yet; and behind a second header's line end.
+const RESPONSE_VALUES: &[Place] = &[
+    (b"HTTP/1.1 200 OK\r\nA:", b"\r\n\r\n"),
+    (b"HTTP/1.1 200\nA: b", b"\nC: d\n\n"),
+    (b"HTTP/1.1 200\r\nA:b\r\n", b"C: d\r\n\r\n"),
+    (b"HTTP/1.1 200\nA:\n", b" b\n\n"),
+    (b"HTTP/1.1 200\nA: b\r\n ", b"c\r\n\r\n"),
+    (b"HTTP/1.1 200\nA:\n\t", b"b\nC: d\n\n"),
+    (b"HTTP/1.1 200\nA:b\nC: d\n", b"\n"),
+];
+
+/// The places where a setting would have its say if it were for requests.
+const REQUEST_NAMES: &[Place] = &[(b"GET / HTTP/1.1\r\nA", b": b\r\n\r\n")];
+const REQUEST_VALUES: &[Place] = &[(b"GET / HTTP/1.1\nA: b", b"\nC: d\n\n")];
+
+/// Where in a call a setting has its say, or would have it if it were for that call.
+pub fn places(call: Call, setting: u32) -> &'static [Place] {
+    match (call, setting) {
+        (Call::Request, SPACES_IN_REQUEST_LINE) => REQUEST_LINES,
+        (Call::Request, SPACE_BEFORE_FIRST_HEADER_NAME) => REQUEST_FIRST_NAMES,
+        (Call::Request, SPACES_AFTER_HEADER_NAME) => REQUEST_NAMES,
+        (Call::Request, MULTILINE_HEADERS) => REQUEST_VALUES,
+        (Call::Response, SPACES_IN_STATUS_LINE) => STATUS_LINES,
+        (Call::Response, SPACE_BEFORE_FIRST_HEADER_NAME) => RESPONSE_FIRST_NAMES,
+        (Call::Response, SPACES_AFTER_HEADER_NAME) => RESPONSE_NAMES,
+        (Call::Response, MULTILINE_HEADERS) => RESPONSE_VALUES,
+        _ => &[],
+    }
+}
+
+/// The places of all settings that Headreader has.
+pub fn all_places(call: Call) -> Vec<Place> {
+    let settings = bits::singles(bits::SUPPORTED);
+    let places = settings.iter().flat_map(|&setting| places(call, setting));
+    places.copied().collect()
+}
+
 pub fn telling_bytes(call: Call) -> &'static [u8] {
     match call {
         Call::ChunkSize => CHUNK_BYTES,
         _ => HEAD_BYTES,
+    }
+}
+
+#[cfg(test)]
+mod tests {
+    use super::*;
+    use crate::numbers::Numbers;
+    use crate::{theirs, Case};
+
+    #[test]
+    fn every_place_is_in_a_good_head() {
+        for call in [Call::Request, Call::Response] {
+            for (start, rest) in all_places(call) {
+                let input = [start, rest].concat();
+                let case = Case {
+                    call,
+                    slots: 2,
+                    remainder: 0,
+                    settings: bits::SUPPORTED,
+                    input: &input,
+                };
+                let mut numbers = Numbers::default();
+                numbers.lend(case.room());
+                theirs::read(&case, &mut numbers);
+                let end = numbers.out.numbers()[0];
+                assert_eq!((numbers.status, end), (0, input.len() as u64), "{case}");
+            }
+        }
+    }
+
+    #[test]
+    fn every_setting_has_a_place() {
+        for call in [Call::Request, Call::Response] {
+            for setting in bits::singles(bits::of(call)) {
+                assert!(!places(call, setting).is_empty());
+            }
+        }
     }
 }

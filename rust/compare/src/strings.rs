@@ -1,6 +1,7 @@
 //! All short strings over some bytes, behind starts.
 
 use crate::starts::Start;
+use crate::{on_all_cores, Case, Comparer, Tally};
 use answers::Call;
 
 /// A start with one more byte or none, and how many are tried behind that.
@@ -53,6 +54,62 @@ pub fn how_many(starts: &[Start], bytes: &[u8]) -> u64 {
             .sum::<u64>()
     };
     starts.iter().map(|&(_, depth)| up_to(depth)).sum()
+}
+
+/// What is compared on all strings over some bytes behind some starts, with each number of slots.
+#[derive(Clone, Copy)]
+pub struct Sweep<'lists> {
+    pub call: Call,
+    pub settings: u32,
+    pub slots: &'lists [usize],
+    pub starts: &'lists [Start],
+    pub bytes: &'lists [u8],
+    /// What stands behind each string.
+    pub rest: &'lists [u8],
+}
+
+impl Sweep<'_> {
+    /// Compares all of it, with every remainder in turn, and sees that nothing was left out.
+    pub fn compare(&self) -> Tally {
+        let tally = on_all_cores(&strings(self.starts, self.bytes), |strings| {
+            let mut comparer = Comparer::of_headreader();
+            let mut input = Vec::new();
+            strings.each(self.bytes, |string| {
+                input.clear();
+                input.extend_from_slice(string);
+                input.extend_from_slice(self.rest);
+                self.compare_one(&input, &mut comparer);
+            });
+            comparer.tally()
+        });
+        assert_eq!(tally.total(), self.how_many());
+        tally.assert_all_placed();
+        if self.call != Call::ChunkSize {
+            tally.assert_all_came_back(tally.complete());
+        }
+        tally
+    }
+
+    fn compare_one(&self, input: &[u8], comparer: &mut Comparer) {
+        for &slots in self.slots {
+            comparer.compare(&Case {
+                call: self.call,
+                slots,
+                remainder: input.len() % 4,
+                settings: self.settings,
+                input,
+            });
+        }
+    }
+
+    fn how_many(&self) -> u64 {
+        how_many(self.starts, self.bytes) * self.slots.len() as u64
+    }
+}
+
+/// The same starts with another number of bytes behind each.
+pub fn with_depth(starts: &[Start], depth: usize) -> Vec<Start> {
+    starts.iter().map(|&(start, _)| (start, depth)).collect()
 }
 
 /// With how many slots each is read; a chunk size line has no headers, so once is enough.

@@ -5,13 +5,14 @@ use answers::Call;
 use std::fmt;
 use std::ops::AddAssign;
 
-/// The number of comparisons for each status, of the positions of errors, and of the round trips
-/// through the plain form.
+/// The number of comparisons for each status, of the positions of errors, of the round trips through
+/// the plain form, and of the complete heads that have none, since a value was folded.
 #[derive(Clone, Copy, Default)]
 pub struct Tally {
     statuses: [u64; STATUSES.len()],
     positions: u64,
     round_trips: u64,
+    folded: u64,
 }
 
 impl Tally {
@@ -28,12 +29,23 @@ impl Tally {
         self.round_trips += 1;
     }
 
-    /// Panics if a complete head was not sent through its plain form; a chunk size line has none.
+    pub fn count_folded(&mut self) {
+        self.folded += 1;
+    }
+
+    /// Panics if a complete head was not sent through its plain form, though it has one; a chunk size
+    /// line has none.
     pub fn assert_all_came_back(&self, heads: u64) {
         assert_eq!(
-            self.round_trips, heads,
+            self.round_trips + self.folded,
+            heads,
             "not every head was sent on its way"
         );
+    }
+
+    /// How many complete heads had a value that was folded.
+    pub fn folded(&self) -> u64 {
+        self.folded
     }
 
     /// Panics if the position of an error was not compared.
@@ -86,6 +98,7 @@ impl AddAssign for Tally {
         }
         self.positions += other.positions;
         self.round_trips += other.round_trips;
+        self.folded += other.folded;
     }
 }
 
@@ -102,6 +115,9 @@ impl fmt::Display for Tally {
         )?;
         if self.round_trips > 0 {
             write!(formatter, " and {} round trips", self.round_trips)?;
+        }
+        if self.folded > 0 {
+            write!(formatter, ", {} folded heads without", self.folded)?;
         }
         Ok(())
     }

@@ -1,6 +1,7 @@
 //! What httparse answers, as the numbers that Headreader is to write.
 
 use crate::numbers::{Numbers, OUT, SLOT};
+use crate::types::their_config;
 use crate::Case;
 use answers::functions::{
     number, CODE, COMPLETE, INCOMPLETE, INVALID_CHUNK_SIZE, METHOD, REASON, TARGET, VERSION,
@@ -32,8 +33,8 @@ fn head<'input>(case: &Case<'input>, lent: &mut [Header<'input>], numbers: &mut 
     let input = case.input;
     let all: *const [Header<'_>] = lent;
     let (result, listed, fields) = match case.call {
-        Call::Request => request(input, lent),
-        Call::Response => response(input, lent),
+        Call::Request => request(case, lent),
+        Call::Response => response(case, lent),
         _ => headers(input, lent),
     };
     let given = write_slots(lent, input, numbers.slots.numbers_mut());
@@ -49,9 +50,10 @@ type Read<'input> = (
     [u64; OUT - 2],
 );
 
-fn request<'input>(input: &'input [u8], lent: &mut [Header<'input>]) -> Read<'input> {
+fn request<'input>(case: &Case<'input>, lent: &mut [Header<'input>]) -> Read<'input> {
+    let input = case.input;
     let mut request = httparse::Request::new(lent);
-    let result = request.parse(input);
+    let result = their_config(case).parse_request(&mut request, input);
     let known =
         bit(METHOD, request.method) + bit(TARGET, request.path) + bit(VERSION, request.version);
     let [method, method_length] = place(input, request.method.map(str::as_bytes));
@@ -61,9 +63,10 @@ fn request<'input>(input: &'input [u8], lent: &mut [Header<'input>]) -> Read<'in
     (result, request.headers, fields)
 }
 
-fn response<'input>(input: &'input [u8], lent: &mut [Header<'input>]) -> Read<'input> {
+fn response<'input>(case: &Case<'input>, lent: &mut [Header<'input>]) -> Read<'input> {
+    let input = case.input;
     let mut response = httparse::Response::new(lent);
-    let result = response.parse(input);
+    let result = their_config(case).parse_response(&mut response, input);
     let known =
         bit(VERSION, response.version) + bit(CODE, response.code) + bit(REASON, response.reason);
     let version = response.version.map_or(0, u64::from);
@@ -188,13 +191,14 @@ fn place(input: &[u8], part: Option<&[u8]>) -> [u64; 2] {
 mod tests {
     use super::*;
     use crate::numbers::UNTOUCHED as FREE;
+    use answers::bits::DEFAULT;
 
     fn answer(call: Call, slots: usize, input: &[u8]) -> Numbers {
         let case = Case {
             call,
             slots,
             remainder: 1,
-            ascii_targets: false,
+            settings: DEFAULT,
             input,
         };
         let mut numbers = Numbers::default();

@@ -16,6 +16,8 @@ use seen::{ways, Seen, Way};
 pub use ours::texts as our_texts;
 pub use theirs::texts as their_texts;
 
+pub(crate) use theirs::config as their_config;
+
 /// A caller of a library that is to be as httparse, beside a caller of httparse.
 pub struct TypesComparer {
     name: &'static str,
@@ -108,6 +110,7 @@ fn expected(case: &Case, way: Way) -> Seen {
 mod tests {
     use super::seen::{Ended, Line, Place};
     use super::*;
+    use answers::bits::{ASCII_TARGETS, DEFAULT};
     use answers::Call;
 
     const HEAD: &[u8] = b"PUT / HTTP/1.1\nHost: a\nX:\n\nbody";
@@ -117,7 +120,7 @@ mod tests {
             call: Call::Request,
             slots,
             remainder: 0,
-            ascii_targets: false,
+            settings: DEFAULT,
             input,
         }
     }
@@ -247,7 +250,7 @@ a wrong library: Seen { ended: [Error { name: \"Token\", text: \"invalid token\"
     /// A caller of Headreader that forgets the setting.
     fn without_settings(case: &Case, way: Way) -> Seen {
         let off = Case {
-            ascii_targets: false,
+            settings: DEFAULT,
             ..*case
         };
         ours::call(&off, way)
@@ -262,7 +265,7 @@ a wrong setting: Seen { ended: [Partial]"
     )]
     fn a_setting_that_is_forgotten_is_told() {
         TypesComparer::of("a wrong setting", without_settings).compare(&Case {
-            ascii_targets: true,
+            settings: ASCII_TARGETS,
             ..case(2, b"\r\nGET /caf\xe9")
         });
     }
@@ -270,7 +273,7 @@ a wrong setting: Seen { ended: [Partial]"
     #[test]
     fn a_target_beyond_ascii_is_seen_to_be_refused() {
         let case = Case {
-            ascii_targets: true,
+            settings: ASCII_TARGETS,
             ..case(2, b"\nPUT /\xc3\xa9 HTTP/1.1\nHost: a\n\n")
         };
         for way in [Way::Settings, Way::SettingsUninit] {

@@ -1,10 +1,11 @@
 //! Targets that must be plain ASCII: Headreader with its setting, and httparse behind a filter.
 
+use answers::bits::ASCII_TARGETS;
 use answers::Call;
 use compare::damage::{damaged, places, slot_counts};
-use compare::heads::{jobs, make, Head, Shape};
+use compare::heads::{jobs, make, shapes, Head, Shape};
 use compare::starts::{starts, telling_bytes, Start};
-use compare::strings::{self, how_many, strings};
+use compare::strings::{self, how_many, strings, with_depth, Sweep};
 use compare::types::TypesComparer;
 use compare::{on_all_cores, Case, Comparer, Random, Tally};
 use std::ops::Range;
@@ -53,7 +54,7 @@ fn case(call: Call, slots: usize, input: &[u8]) -> Case<'_> {
         call,
         slots,
         remainder: input.len() % 4,
-        ascii_targets: true,
+        settings: ASCII_TARGETS,
         input,
     }
 }
@@ -63,27 +64,17 @@ fn bytes() -> Vec<u8> {
     [telling_bytes(Call::Request), b"\xc3\xa9\xff"].concat()
 }
 
-/// Compares all strings of the bytes behind the starts, and sees that none was left out.
+/// Compares all strings of the bytes behind the starts.
 fn compare_behind(call: Call, starts: &[Start], bytes: &[u8]) -> Tally {
-    let slots = strings::slot_counts(call);
-    let tally = on_all_cores(&strings(starts, bytes), |strings| {
-        let mut comparer = Comparer::of_headreader();
-        strings.each(bytes, |input| {
-            for &slots in slots {
-                comparer.compare(&case(call, slots, input));
-            }
-        });
-        comparer.tally()
-    });
-    assert_eq!(tally.total(), how_many(starts, bytes) * slots.len() as u64);
-    tally.assert_all_came_back(tally.complete());
-    tally.assert_all_placed();
-    tally
-}
-
-/// The same starts with another number of bytes behind each.
-fn with_depth(starts: &[Start], depth: usize) -> Vec<Start> {
-    starts.iter().map(|&(start, _)| (start, depth)).collect()
+    let sweep = Sweep {
+        call,
+        settings: ASCII_TARGETS,
+        slots: strings::slot_counts(call),
+        starts,
+        bytes,
+        rest: b"",
+    };
+    sweep.compare()
 }
 
 #[test]
@@ -186,7 +177,7 @@ fn heads_of(shape: &Shape) -> usize {
 
 #[test]
 fn damaged_heads() {
-    let jobs = jobs(SEED, heads_of);
+    let jobs = jobs(shapes(), SEED, heads_of);
     let tally = on_all_cores(&jobs, |(shape, seed)| {
         let mut comparer = Comparer::of_headreader();
         let mut random = Random::new(*seed);

@@ -1,7 +1,8 @@
 //! Damaged copies of realistic heads: changed, dropped, doubled and swapped bytes, and cuts.
 
+use answers::bits::DEFAULT;
 use compare::damage::{damaged, places, slot_counts};
-use compare::heads::{jobs, make, Head, Shape};
+use compare::heads::{jobs, make, shapes, Head, Shape};
 use compare::{on_all_cores, Case, Comparer, Random, CALLS};
 
 const SEED: u64 = 9112;
@@ -18,7 +19,7 @@ fn compare(head: &Head, input: &[u8], comparer: &mut Comparer) {
             call: head.call,
             slots,
             remainder: input.len() % 4,
-            ascii_targets: false,
+            settings: DEFAULT,
             input,
         });
     }
@@ -43,7 +44,7 @@ fn how_many(shape: &Shape) -> usize {
 
 #[test]
 fn damaged_heads() {
-    let jobs = jobs(SEED, how_many);
+    let jobs = jobs(shapes(), SEED, how_many);
     let tally = on_all_cores(&jobs, |(shape, seed)| {
         let mut comparer = Comparer::of_headreader();
         let mut random = Random::new(*seed);

@@ -1,43 +1,28 @@
 //! All short strings over a few telling bytes, behind good starts that end in each part of a head.
 
+use answers::bits::DEFAULT;
 use answers::Call;
 use compare::starts::{starts, telling_bytes, Start};
-use compare::strings::{how_many, slot_counts, strings};
-use compare::{on_all_cores, Case, Comparer, Tally, CALLS};
+use compare::strings::{slot_counts, with_depth, Sweep};
+use compare::{Tally, CALLS};
 
-/// Compares one input with each number of slots, and every remainder in turn.
-fn compare(call: Call, input: &[u8], comparer: &mut Comparer) {
-    for &slots in slot_counts(call) {
-        comparer.compare(&Case {
-            call,
-            slots,
-            remainder: input.len() % 4,
-            ascii_targets: false,
-            input,
-        });
-    }
-}
-
-/// Compares all strings of the bytes behind the starts, and sees that none was left out.
+/// Compares all strings of the bytes behind the starts.
 fn compare_behind(call: Call, starts: &[Start], bytes: &[u8]) -> Tally {
-    let tally = on_all_cores(&strings(starts, bytes), |strings| {
-        let mut comparer = Comparer::of_headreader();
-        strings.each(bytes, |input| compare(call, input, &mut comparer));
-        comparer.tally()
-    });
-    let strings = how_many(starts, bytes);
-    assert_eq!(tally.total(), strings * slot_counts(call).len() as u64);
-    tally.assert_all_placed();
-    tally
+    let sweep = Sweep {
+        call,
+        settings: DEFAULT,
+        slots: slot_counts(call),
+        starts,
+        bytes,
+        rest: b"",
+    };
+    sweep.compare()
 }
 
 /// Compares all strings over the telling bytes of a call, and sees that they lead to every answer.
 fn compare_telling(call: Call) {
     let tally = compare_behind(call, starts(call), telling_bytes(call));
     tally.assert_all_seen(call);
-    if call != Call::ChunkSize {
-        tally.assert_all_came_back(tally.complete());
-    }
     let count = starts(call).len();
     println!("{call}, all strings behind {count} starts: {tally}, no difference");
 }
@@ -68,8 +53,7 @@ fn every_two_of_all_bytes() {
     let all: Vec<u8> = (0..=255).collect();
     let mut tally = Tally::default();
     for call in CALLS {
-        let starts: Vec<Start> = starts(call).iter().map(|&(start, _)| (start, 2)).collect();
-        tally += compare_behind(call, &starts, &all);
+        tally += compare_behind(call, &with_depth(starts(call), 2), &all);
     }
     println!("every call, every two of all bytes behind every start: {tally}, no difference");
 }

@@ -1,5 +1,6 @@
 //! The edges of what is lent: rooms of no whole slots, inputs with nothing around them, none at all.
 
+use answers::bits::DEFAULT;
 use answers::Call;
 use compare::heads::{make, shapes, Head};
 use compare::{Case, Comparer, Random, CALLS};
@@ -24,7 +25,7 @@ fn compare(call: Call, headers: usize, input: &[u8], comparer: &mut Comparer) {
                 call,
                 slots,
                 remainder,
-                ascii_targets: false,
+                settings: DEFAULT,
                 input,
             });
         }

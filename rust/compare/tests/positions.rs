@@ -1,11 +1,12 @@
 //! Where errors lie, with httparse asked about every beginning of an input on its own: so the least
 //! that is an error is meant, and what is one stays one.
 
-use answers::{recorded, Call, Settings};
+use answers::bits::{self, ASCII_TARGETS, DEFAULT};
+use answers::{recorded, Call};
 use compare::damage::{damaged, places, slot_counts};
-use compare::heads::{jobs, make, Head, Shape};
-use compare::starts::{starts, telling_bytes, Start};
-use compare::strings::{self, how_many, strings};
+use compare::heads::{jobs, lenient_shapes, make, shapes, Head, Shape};
+use compare::starts::{all_places, starts, telling_bytes, Start};
+use compare::strings::{self, how_many, strings, with_depth};
 use compare::{on_all_cores, Case, Comparer, Random, Tally, CALLS};
 
 const RECORDED: &str = concat!(env!("CARGO_MANIFEST_DIR"), "/../../recorded/answers.tsv");
@@ -22,19 +23,22 @@ const SHORT: usize = 200;
 /// How many places are chosen in a long head.
 const PLACES: usize = 10;
 
-/// Compares with targets of every kind, of which only requests have one.
-fn compare(call: Call, slots: &[usize], input: &[u8], comparer: &mut Comparer) {
-    let settings: &[bool] = match call {
-        Call::Request => &[false, true],
-        _ => &[false],
-    };
-    for &ascii_targets in settings {
+/// All settings off, and on requests also ours.
+fn usual(call: Call) -> &'static [u32] {
+    match call {
+        Call::Request => &[DEFAULT, ASCII_TARGETS],
+        _ => &[DEFAULT],
+    }
+}
+
+fn compare(call: Call, settings: &[u32], slots: &[usize], input: &[u8], comparer: &mut Comparer) {
+    for &settings in settings {
         for &slots in slots {
             comparer.compare_by_every_beginning(&Case {
                 call,
                 slots,
                 remainder: 0,
-                ascii_targets,
+                settings,
                 input,
             });
         }
@@ -55,57 +59,95 @@ fn recorded_inputs() {
         .unwrap_or_else(|error| panic!("cannot read {RECORDED}: {error}"));
     let mut comparer = Comparer::of_headreader();
     for row in recorded::rows(&text).unwrap() {
-        if row.query.settings == Settings::default() {
-            let slots = [row.query.slots, 0, 1];
-            compare(row.query.call, &slots, &row.query.input, &mut comparer);
-        }
+        let call = row.query.call;
+        let slots = [row.query.slots, 0, 1];
+        let mut settings = usual(call).to_vec();
+        settings.push(row.query.settings.bits() & bits::SUPPORTED);
+        settings.sort_unstable();
+        settings.dedup();
+        compare(call, &settings, &slots, &row.query.input, &mut comparer);
     }
     tell("recorded inputs", &comparer.tally());
+}
+
+/// Compares all strings behind some starts, and sees that none was left out.
+fn compare_behind(call: Call, settings: &[u32], starts: &[Start]) -> Tally {
+    let (bytes, slots) = (telling_bytes(call), strings::slot_counts(call));
+    let tally = on_all_cores(&strings(starts, bytes), |strings| {
+        let mut comparer = Comparer::of_headreader();
+        strings.each(bytes, |input| {
+            compare(call, settings, slots, input, &mut comparer);
+        });
+        comparer.tally()
+    });
+    let each = slots.len() * settings.len();
+    assert_eq!(tally.total(), how_many(starts, bytes) * each as u64);
+    tally
 }
 
 #[test]
 fn all_short_strings() {
     let mut sum = Tally::default();
     for call in CALLS {
-        let bytes = telling_bytes(call);
-        let starts: Vec<Start> = starts(call)
-            .iter()
-            .map(|&(start, _)| (start, DEPTH))
-            .collect();
-        let slots = strings::slot_counts(call);
-        let tally = on_all_cores(&strings(&starts, bytes), |strings| {
-            let mut comparer = Comparer::of_headreader();
-            strings.each(bytes, |input| compare(call, slots, input, &mut comparer));
-            comparer.tally()
-        });
-        let settings = if call == Call::Request { 2 } else { 1 };
-        let all = how_many(&starts, bytes) * slots.len() as u64 * settings;
-        assert_eq!(tally.total(), all);
-        sum += tally;
+        let starts = with_depth(starts(call), DEPTH);
+        sum += compare_behind(call, usual(call), &starts);
     }
     tell("all strings behind every start", &sum);
 }
 
-/// How many heads of a shape are made: a long one has many beginnings.
-fn heads_of(shape: &Shape) -> usize {
-    usize::from(shape.length <= LONG && shape.headers < 100)
+#[test]
+fn all_short_strings_with_settings() {
+    let mut sum = Tally::default();
+    for call in CALLS {
+        let places = all_places(call).into_iter();
+        let starts: Vec<Start> = places.map(|(start, _)| (start, DEPTH)).collect();
+        sum += compare_behind(call, &bits::alone_and_all(bits::of(call)), &starts);
+    }
+    sum.assert_all_placed();
+    println!(
+        "all strings at every place with settings, errors by every beginning: {sum}, no difference"
+    );
 }
 
-fn damage_at(place: usize, head: &Head, random: &mut Random, comparer: &mut Comparer) {
+/// How many heads of a shape are made: a long one has many beginnings, and settings many readings.
+fn heads_of(shape: &Shape) -> usize {
+    let longest = match shape.settings {
+        DEFAULT => LONG,
+        _ => SHORT,
+    };
+    usize::from(shape.length <= longest && shape.headers < 100)
+}
+
+/// The settings with which a head of a shape is read.
+fn settings_of(shape: &Shape) -> Vec<u32> {
+    match shape.settings {
+        DEFAULT => usual(shape.call).to_vec(),
+        needed => bits::alone_and_all(needed),
+    }
+}
+
+fn damage_at(
+    place: usize,
+    head: &Head,
+    settings: &[u32],
+    random: &mut Random,
+    comparer: &mut Comparer,
+) {
     for input in &damaged(&head.bytes, place, random) {
-        compare(head.call, &slot_counts(head), input, comparer);
+        compare(head.call, settings, &slot_counts(head), input, comparer);
     }
 }
 
 #[test]
 fn damaged_heads() {
-    let jobs = jobs(SEED, heads_of);
+    let shapes = [shapes(), lenient_shapes()].concat();
+    let jobs = jobs(shapes, SEED, heads_of);
     let tally = on_all_cores(&jobs, |(shape, seed)| {
         let mut comparer = Comparer::of_headreader();
         let mut random = Random::new(*seed);
-        let head = make(shape, &mut random);
+        let (head, settings) = (make(shape, &mut random), settings_of(shape));
         for place in places(&head.bytes, SHORT, PLACES, &mut random) {
-            damage_at(place, &head, &mut random, &mut comparer);
+            damage_at(place, &head, &settings, &mut random, &mut comparer);
         }
         comparer.tally()
     });

@@ -1,16 +1,18 @@
 //! Heads one behind another: good ones, damaged ones, and cuts, with any room for slots and ends.
 
+use answers::bits::{self, ASCII_TARGETS};
 use answers::Call;
-use compare::heads::{make, shapes, Head, Shape};
+use compare::heads::{lenient_shapes, make, shapes, Head, Shape};
 use compare::row::{ours, theirs, FULL};
 use compare::Random;
 
 const SEED: u64 = 2068;
 const ROWS: usize = 40_000;
 
-/// Shapes of short heads of a call.
+/// Shapes of short heads of a call, those that need no setting and those that need all.
 fn short(call: Call) -> Vec<Shape> {
-    let of_call = shapes().into_iter().filter(|shape| shape.call == call);
+    let all = shapes().into_iter().chain(lenient_shapes());
+    let of_call = all.filter(|shape| shape.call == call);
     of_call
         .filter(|shape| shape.headers < 10)
         .filter(|shape| shape.length < 1_000)
@@ -31,7 +33,8 @@ fn row(shapes: &[Shape], random: &mut Random) -> (Vec<u8>, Vec<u64>) {
 
 /// Where the head ends and what stands behind it begins.
 fn end(head: &Head) -> usize {
-    let alone = theirs(head.call, &head.bytes, head.headers, 1, false);
+    let settings = bits::of(head.call);
+    let alone = theirs(head.call, &head.bytes, head.headers, 1, settings);
     alone.ends[0] as usize
 }
 
@@ -56,9 +59,10 @@ fn rows_of_heads() {
     let (mut heads, mut later) = (0, 0);
     for call in [Call::Request, Call::Response] {
         let shapes = short(call);
+        let settings = bits::combinations(bits::of(call) | ASCII_TARGETS);
         for _ in 0..ROWS {
             let (good, ends) = row(&shapes, &mut random);
-            let all = ours(call, &good, 100, ends.len(), false);
+            let all = ours(call, &good, 100, ends.len(), bits::of(call));
             assert_eq!((all.status, all.count), (0, ends.len() as u64));
             assert_eq!((all.ends, all.position), (ends, 0));
             let damage = random.below(2) == 0;
@@ -68,9 +72,9 @@ fn rows_of_heads() {
                 good
             };
             let (slots, room) = (random.below(10), random.below(8));
-            let ascii = random.below(2) == 0;
-            let found = ours(call, &input, slots, room, ascii);
-            let expected = theirs(call, &input, slots, room, ascii);
+            let settings = random.choose(&settings);
+            let found = ours(call, &input, slots, room, settings);
+            let expected = theirs(call, &input, slots, room, settings);
             assert_eq!(found, expected, "{call}: {}", input.escape_ascii());
             seen[found.status as usize] += 1;
             heads += found.count;

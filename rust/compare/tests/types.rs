@@ -1,9 +1,10 @@
 //! A caller of Headreader sees what a caller of httparse sees: results, fields, headers and their
 //! places, memory that is left alone, and texts.
 
+use answers::bits::DEFAULT;
 use answers::Call;
 use compare::damage::{damaged, places, slot_counts};
-use compare::heads::{jobs, make, Head, Shape, LONGEST};
+use compare::heads::{jobs, make, shapes, Head, Shape, LONGEST};
 use compare::starts::{starts, telling_bytes, Start};
 use compare::strings::{self, strings};
 use compare::types::{our_texts, their_texts, TypesComparer};
@@ -29,18 +30,20 @@ fn compare(call: Call, slots: &[usize], input: &[u8], comparer: &mut TypesCompar
             call,
             slots,
             remainder: 0,
-            ascii_targets: false,
+            settings: DEFAULT,
             input,
         });
     }
 }
 
-/// The setting that httparse does not have is shown behind those that it has.
+/// The setting that httparse does not have is shown behind those that it has: by default, and with
+/// each of them on and off.
 #[test]
 fn texts() {
     let shown = ", ascii_targets: false }";
     let ours = our_texts();
-    assert_eq!(ours.iter().filter(|text| text.contains(shown)).count(), 1);
+    let count = |text: &String| text.matches(shown).count();
+    assert_eq!(ours.iter().map(count).sum::<usize>(), 1 + 2 * 5);
     let ours: Vec<String> = ours.iter().map(|text| text.replace(shown, " }")).collect();
     assert_eq!(ours, their_texts());
 }
@@ -92,7 +95,7 @@ fn how_many(shape: &Shape) -> usize {
 
 #[test]
 fn damaged_heads() {
-    let jobs = jobs(SEED, how_many);
+    let jobs = jobs(shapes(), SEED, how_many);
     let tally = on_all_cores(&jobs, |(shape, seed)| {
         let mut comparer = TypesComparer::of_headreader();
         let mut random = Random::new(*seed);

@@ -1,29 +1,42 @@
 //! New heads among those that mutation makes of old ones.
 
-use crate::input::write;
-use compare::heads::{make, shapes, Head};
+use crate::input::{write, SETTINGS};
+use answers::bits::combinations;
+use compare::heads::{lenient_shapes, make, shapes, Head, Shape};
 use compare::{Case, Random};
 
-/// Heads of every shape up to this length, one each, with what is left open chosen at random.
-pub fn heads(longest: usize, random: &mut Random) -> Vec<Head> {
-    let short = shapes().into_iter().filter(|shape| shape.length <= longest);
-    let heads = short.map(|shape| make(&shape, random));
-    heads.filter(|head| head.bytes.len() <= longest).collect()
+/// All shapes, with settings and without.
+fn all_shapes() -> Vec<Shape> {
+    [shapes(), lenient_shapes()].concat()
+}
+
+/// Heads of every shape up to this length, one each, with what is left open chosen at random; and the
+/// settings that each needs.
+pub fn heads(longest: usize, random: &mut Random) -> Vec<(Head, u32)> {
+    let mut heads = Vec::new();
+    for shape in all_shapes() {
+        if shape.length <= longest {
+            heads.push((make(&shape, random), shape.settings));
+        }
+    }
+    heads.retain(|(head, _)| head.bytes.len() <= longest);
+    heads
 }
 
 /// A row of bytes that stands for a call on a new head, or for none if the shape chosen is too long.
 pub fn fresh(longest: usize, random: &mut Random) -> Option<Vec<u8>> {
-    let shape = random.choose(&shapes());
+    let shape = random.choose(&all_shapes());
     if shape.length > longest {
         return None;
     }
     let head = make(&shape, random);
     let few = head.headers.saturating_sub(1);
+    let random_settings = random.choose(&combinations(SETTINGS));
     let row = write(&Case {
         call: head.call,
         slots: random.choose(&[0, few, head.headers, head.headers + 1]),
         remainder: random.below(4),
-        ascii_targets: random.below(2) == 0,
+        settings: random.choose(&[shape.settings, random_settings]),
         input: &head.bytes,
     });
     (row.len() <= longest).then_some(row)

@@ -5,4 +5,4 @@ mod fresh;
 mod input;
 
 pub use fresh::heads;
-pub use input::{case, write};
+pub use input::{case, write, SETTINGS};

@@ -1,27 +1,28 @@
 //! Settings.
 
-use crate::library::{self, ASCII_TARGETS};
-use crate::{position, Header, Request, Response, Result};
+use crate::{library, position, Header, Request, Response, Result};
 use core::mem::MaybeUninit;
 
 /// How lenient or strict the reading is.
 ///
-/// All settings are off by default. [`ascii_targets`](ParserConfig::ascii_targets) is the one that
-/// can be set, and httparse does not have it; httparse's setters will come one by one, each with the
-/// proof of what its setting does. A caller that needs one of these cannot use Headreader yet, and
-/// learns so from the compiler.
+/// All settings are off by default, and each is on its own: any of them may be combined. Of httparse's
+/// settings those that ignore invalid headers cannot be set yet: a caller that needs one of these two
+/// cannot use Headreader yet, and learns so from the compiler.
+/// [`ascii_targets`](ParserConfig::ascii_targets) is not httparse's but ours.
 ///
 /// ```
 /// let mut headers = [headreader::EMPTY_HEADER; 16];
 /// let mut response = headreader::Response::new(&mut headers);
-/// let config = headreader::ParserConfig::default();
-/// let read = config.parse_response(&mut response, b"HTTP/1.1 204 No Content\r\n\r\n");
-/// assert_eq!(read, Ok(headreader::Status::Complete(27)));
+/// let mut config = headreader::ParserConfig::default();
+/// config.allow_multiple_spaces_in_response_status_delimiters(true);
+/// let read = config.parse_response(&mut response, b"HTTP/1.1  204  No Content\r\n\r\n");
+/// assert_eq!(read, Ok(headreader::Status::Complete(29)));
+/// assert_eq!(response.reason, Some("No Content"));
 /// ```
 #[derive(Clone, Debug, Default)]
 #[expect(
     dead_code,
-    reason = "shown as httparse shows them; what sets and reads each comes with its setting"
+    reason = "two are shown as httparse shows them; what sets and reads each comes with its setting"
 )]
 pub struct ParserConfig {
     allow_spaces_after_header_name_in_responses: bool,
@@ -35,6 +36,165 @@ pub struct ParserConfig {
 }
 
 impl ParserConfig {
+    /// Sets whether spaces and tabs may stand between a header's name and the colon, in responses.
+    ///
+    /// They are no part of the name. RFC 9112, section 5.1, forbids them: a proxy takes them out
+    /// before it passes such a response on. A request with them is refused, whatever is set here.
+    ///
+    /// ```
+    /// use headreader::{Error, ParserConfig, Response, Status, EMPTY_HEADER};
+    ///
+    /// let head = b"HTTP/1.1 200 OK\r\nServer \t: a\r\n\r\n";
+    /// let mut headers = [EMPTY_HEADER; 1];
+    /// let mut response = Response::new(&mut headers);
+    /// assert_eq!(response.parse(head), Err(Error::HeaderName));
+    ///
+    /// let mut config = ParserConfig::default();
+    /// config.allow_spaces_after_header_name_in_responses(true);
+    /// let read = config.parse_response(&mut response, head);
+    /// assert_eq!(read, Ok(Status::Complete(head.len())));
+    /// assert_eq!(response.headers[0].name, "Server");
+    /// ```
+    #[inline]
+    pub fn allow_spaces_after_header_name_in_responses(&mut self, value: bool) -> &mut Self {
+        self.allow_spaces_after_header_name_in_responses = value;
+        self
+    }
+
+    /// Sets whether a header's value may be folded, in responses: a line that begins with a space or
+    /// a tab then goes on with the value of the line before it.
+    ///
+    /// The value is given as its bytes stand, **with the line ends inside it**; spaces, tabs and line
+    /// ends around it are cut off. Who passes it on puts a space in the place of each fold, as RFC
+    /// 9112, section 5.2, asks: written out as it is, the value ends at its first line end, and what
+    /// follows is something else to the next reader. A header is given only when the byte behind its
+    /// line end shows that it does not go on, so [`TooManyHeaders`](crate::Error::TooManyHeaders) waits
+    /// for that byte too. A request with a fold is refused, whatever is set here.
+    ///
+    /// ```
+    /// use headreader::{Error, ParserConfig, Response, Status, EMPTY_HEADER};
+    ///
+    /// let head = b"HTTP/1.1 200 OK\r\nServer: a\r\n  and b\r\n\r\n";
+    /// let mut headers = [EMPTY_HEADER; 1];
+    /// let mut response = Response::new(&mut headers);
+    /// assert_eq!(response.parse(head), Err(Error::HeaderName));
+    ///
+    /// let mut config = ParserConfig::default();
+    /// config.allow_obsolete_multiline_headers_in_responses(true);
+    /// let read = config.parse_response(&mut response, head);
+    /// assert_eq!(read, Ok(Status::Complete(head.len())));
+    /// assert_eq!(response.headers[0].value, b"a\r\n  and b");
+    /// ```
+    #[inline]
+    pub fn allow_obsolete_multiline_headers_in_responses(&mut self, value: bool) -> &mut Self {
+        self.allow_obsolete_multiline_headers_in_responses = value;
+        self
+    }
+
+    /// Whether a header's value may be folded, in responses.
+    #[inline]
+    pub fn obsolete_multiline_headers_in_responses_are_allowed(&self) -> bool {
+        self.allow_obsolete_multiline_headers_in_responses
+    }
+
+    /// Sets whether more than one space may stand behind the method and behind the target of a
+    /// request.
+    ///
+    /// Spaces only: a tab is an error as ever, and so is a space before the method or behind the
+    /// version.
+    ///
+    /// ```
+    /// use headreader::{Error, ParserConfig, Request, Status};
+    ///
+    /// let head = b"GET  /orders   HTTP/1.1\r\n\r\n";
+    /// let mut request = Request::new(&mut []);
+    /// assert_eq!(request.parse(head), Err(Error::Token));
+    ///
+    /// let mut config = ParserConfig::default();
+    /// config.allow_multiple_spaces_in_request_line_delimiters(true);
+    /// let read = config.parse_request(&mut request, head);
+    /// assert_eq!(read, Ok(Status::Complete(head.len())));
+    /// assert_eq!(request.path, Some("/orders"));
+    /// ```
+    #[inline]
+    pub fn allow_multiple_spaces_in_request_line_delimiters(&mut self, value: bool) -> &mut Self {
+        self.allow_multiple_spaces_in_request_line_delimiters = value;
+        self
+    }
+
+    /// Whether more than one space may stand behind the method and behind the target of a request.
+    #[inline]
+    pub fn multiple_spaces_in_request_line_delimiters_are_allowed(&self) -> bool {
+        self.allow_multiple_spaces_in_request_line_delimiters
+    }
+
+    /// Sets whether more than one space may stand behind the version and behind the code of a
+    /// response.
+    ///
+    /// A [`reason`](Response::reason) then begins with its first byte that is no space; with the
+    /// setting off, spaces behind the first belong to it.
+    ///
+    /// ```
+    /// use headreader::{Error, ParserConfig, Response, Status};
+    ///
+    /// let head = b"HTTP/1.1   200  OK\r\n\r\n";
+    /// let mut response = Response::new(&mut []);
+    /// assert_eq!(response.parse(head), Err(Error::Status));
+    ///
+    /// let mut config = ParserConfig::default();
+    /// config.allow_multiple_spaces_in_response_status_delimiters(true);
+    /// let read = config.parse_response(&mut response, head);
+    /// assert_eq!(read, Ok(Status::Complete(head.len())));
+    /// assert_eq!(response.reason, Some("OK"));
+    /// ```
+    #[inline]
+    pub fn allow_multiple_spaces_in_response_status_delimiters(
+        &mut self,
+        value: bool,
+    ) -> &mut Self {
+        self.allow_multiple_spaces_in_response_status_delimiters = value;
+        self
+    }
+
+    /// Whether more than one space may stand behind the version and behind the code of a response.
+    #[inline]
+    pub fn multiple_spaces_in_response_status_delimiters_are_allowed(&self) -> bool {
+        self.allow_multiple_spaces_in_response_status_delimiters
+    }
+
+    /// Sets whether spaces and tabs may stand before the name of the first header, in requests and
+    /// responses.
+    ///
+    /// They are no part of the name. As long as no header was given, a line with nothing else in it
+    /// ends the head as an empty line does. RFC 9112, section 2.2, asks to refuse such a message, or
+    /// to pass over each such line unread.
+    ///
+    /// ```
+    /// use headreader::{Error, ParserConfig, Request, Status, EMPTY_HEADER};
+    ///
+    /// let head = b"GET / HTTP/1.1\r\n \tHost: a\r\n\r\n";
+    /// let mut headers = [EMPTY_HEADER; 1];
+    /// let mut request = Request::new(&mut headers);
+    /// assert_eq!(request.parse(head), Err(Error::HeaderName));
+    ///
+    /// let mut config = ParserConfig::default();
+    /// config.allow_space_before_first_header_name(true);
+    /// let read = config.parse_request(&mut request, head);
+    /// assert_eq!(read, Ok(Status::Complete(head.len())));
+    /// assert_eq!(request.headers[0].name, "Host");
+    /// ```
+    #[inline]
+    pub fn allow_space_before_first_header_name(&mut self, value: bool) -> &mut Self {
+        self.allow_space_before_first_header_name = value;
+        self
+    }
+
+    /// Whether spaces and tabs may stand before the name of the first header.
+    #[inline]
+    pub fn space_before_first_header_name_are_allowed(&self) -> bool {
+        self.allow_space_before_first_header_name
+    }
+
     /// Sets whether a request's target may have visible ASCII only, the bytes 0x21 to 0x7E.
     ///
     /// With it on, any other byte in a target is [`Error::Token`](crate::Error::Token) as soon as it
@@ -70,11 +230,30 @@ impl ParserConfig {
     /// The bits by which the proved code knows the settings.
     #[inline]
     fn bits(&self) -> u32 {
-        if self.ascii_targets {
-            ASCII_TARGETS
-        } else {
-            0
-        }
+        let bits = [
+            (
+                self.allow_spaces_after_header_name_in_responses,
+                library::SPACES_AFTER_HEADER_NAME,
+            ),
+            (
+                self.allow_obsolete_multiline_headers_in_responses,
+                library::MULTILINE_HEADERS,
+            ),
+            (
+                self.allow_multiple_spaces_in_request_line_delimiters,
+                library::SPACES_IN_REQUEST_LINE,
+            ),
+            (
+                self.allow_multiple_spaces_in_response_status_delimiters,
+                library::SPACES_IN_STATUS_LINE,
+            ),
+            (
+                self.allow_space_before_first_header_name,
+                library::SPACE_BEFORE_FIRST_HEADER_NAME,
+            ),
+            (self.ascii_targets, library::ASCII_TARGETS),
+        ];
+        bits.iter().map(|&(on, bit)| u32::from(on) * bit).sum()
     }
 
     /// Reads as [`Request::parse`] does, with these settings.
@@ -139,7 +318,7 @@ impl ParserConfig {
     /// assert_eq!(config.request_error_position(buf, request.headers.len()), Some(8));
     /// ```
     pub fn request_error_position(&self, buf: &[u8], slots: usize) -> Option<usize> {
-        position::in_head(buf, slots, |slots| {
+        position::in_head(buf.len(), slots, |slots| {
             library::request(buf, slots, self.bits())
         })
     }
@@ -159,7 +338,7 @@ impl ParserConfig {
     /// assert_eq!(config.response_error_position(buf, response.headers.len()), Some(22));
     /// ```
     pub fn response_error_position(&self, buf: &[u8], slots: usize) -> Option<usize> {
-        position::in_head(buf, slots, |slots| {
+        position::in_head(buf.len(), slots, |slots| {
             library::response(buf, slots, self.bits())
         })
     }

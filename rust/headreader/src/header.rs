@@ -7,7 +7,9 @@ use core::{fmt, str};
 pub struct Header<'a> {
     /// The name, one or more letters, digits and marks of a token: ASCII, as it was written.
     pub name: &'a str,
-    /// The value without the spaces and tabs around it; it may have any bytes from 0x80 on, so it
+    /// The value without the spaces and tabs around it; it has line ends inside only where
+    /// [folds are allowed](crate::ParserConfig::allow_obsolete_multiline_headers_in_responses), and
+    /// is then without those around it too. It may have any bytes from 0x80 on, so it
     /// need not be UTF-8.
     pub value: &'a [u8],
 }

@@ -1,16 +1,16 @@
 //! Reads the heads of HTTP/1 messages: the start line and the headers of a request or a response,
 //! headers alone, and the line that says how long a chunk of a body is.
 //!
-//! The interface is that of the crate httparse 1.10.1, by name and type, but for the setters of
-//! [`ParserConfig`]: httparse's own come later, and [`ascii_targets`](ParserConfig::ascii_targets)
-//! is ours. The answers are those of httparse's default settings unless that is on. What reads is
-//! Headreader: code in which every function is proved to meet its contract. A complete answer means
+//! The interface is that of the crate httparse 1.10.1, by name and type, but for [`ParserConfig`]: two
+//! of its setters, those that ignore invalid headers, come later, and
+//! [`ascii_targets`](ParserConfig::ascii_targets) is ours. The answers are those of httparse with the
+//! same settings, unless that one is on. What reads is Headreader: code in which every function is proved to meet its contract. A complete answer means
 //! that a head ends there and that the fields are its own; an error, that no head that fits the lent
 //! headers begins there; partial, that none has ended yet; and none of them changes when more bytes
 //! arrive. `docs/PROVED.md` in Headreader's repository says what is proved.
 //!
-//! Nothing is copied and nothing is allocated: names and values are parts of the caller's buffer,
-//! and the headers stand in memory that the caller lends.
+//! Nothing is copied and to read nothing is allocated: names and values are parts of the caller's
+//! buffer, and the headers stand in memory that the caller lends.
 //!
 //! # A server
 //!
@@ -78,16 +78,18 @@
 //! ```
 //!
 //! The byte at that position decided: the bytes before it are partial, and with it they are this error.
-//! Only [`Error::TooManyHeaders`] lies at the first byte of the header that had no slot.
+//! Only [`Error::TooManyHeaders`] lies at the first byte of the header that had no slot. Where that is
+//! the 65th or a later one, memory for as many slots is allocated.
 //! [`response_error_position`], [`headers_error_position`] and [`chunk_size_error_position`] tell the
 //! same of the other calls, and [`ParserConfig`] has two functions for its settings.
 //!
 //! # In httparse's place
 //!
-//! For a program that sets nothing of [`ParserConfig`], this line in its `Cargo.toml` is the whole
+//! For a program that does not ignore invalid headers, this line in its `Cargo.toml` is the whole
 //! change: `httparse = { package = "headreader", path = ".." }`. What is not as in httparse:
 //!
-//! - [`ParserConfig`] does not have httparse's setters yet, so all that they set is off. Its setting
+//! - [`ParserConfig`] does not have `ignore_invalid_headers_in_responses` and
+//!   `ignore_invalid_headers_in_requests` yet, so both are off. Its setting
 //!   [`ascii_targets`](ParserConfig::ascii_targets) is not httparse's, and is shown for debugging
 //!   behind those that are.
 //! - The functions that tell where an error lies are ours.
@@ -102,6 +104,8 @@
 
 #[cfg(not(target_pointer_width = "64"))]
 compile_error!("headreader needs 64-bit pointers: the proved code counts in 64-bit numbers, four in the place of each header");
+
+extern crate alloc;
 
 mod chunk;
 mod config;

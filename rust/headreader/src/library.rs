@@ -38,7 +38,12 @@ extern "C" {
     fn hr_chunk_size(buffer: *const u8, length: usize, out: *mut Out) -> u32;
 }
 
-/// The bit of the setting under which a target has visible ASCII only; with no bit all are off.
+/// The bits of the settings; with none of them all are off.
+pub const SPACES_AFTER_HEADER_NAME: u32 = 1;
+pub const MULTILINE_HEADERS: u32 = 2;
+pub const SPACES_IN_REQUEST_LINE: u32 = 4;
+pub const SPACES_IN_STATUS_LINE: u32 = 8;
+pub const SPACE_BEFORE_FIRST_HEADER_NAME: u32 = 16;
 pub const ASCII_TARGETS: u32 = 128;
 
 /// The bits of the fields that are known.

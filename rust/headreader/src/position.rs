@@ -3,6 +3,7 @@
 use crate::library::{self, Answer};
 use crate::slots::Slots;
 use crate::{Error, ParserConfig, EMPTY_HEADER};
+use alloc::vec;
 
 /// Where the error lies that [`Request::parse`](crate::Request::parse) answers on these bytes with
 /// so many slots for headers: the position of the byte that decided it. `None` if it answers none.
@@ -10,7 +11,7 @@ use crate::{Error, ParserConfig, EMPTY_HEADER};
 /// On the bytes before that position it answers [`Status::Partial`](crate::Status::Partial), and
 /// from that byte on this error, whatever follows. Only [`Error::TooManyHeaders`] is no matter of one
 /// byte: its position is that of the header that had no slot, of the first byte of its name. On the
-/// bytes before it the call is partial, with a header in every slot.
+/// bytes up to that one and with it the call is partial, with a header in every slot.
 ///
 /// With fewer slots than the call had, that error would come in place of a later one. After an error
 /// [`Request::headers`] still has all slots, so its length is their number (after
@@ -66,7 +67,7 @@ pub fn response_error_position(buf: &[u8], slots: usize) -> Option<usize> {
 /// assert_eq!(&buf[position..], b"C: 3\r\n\r\n");
 /// ```
 pub fn headers_error_position(buf: &[u8], slots: usize) -> Option<usize> {
-    in_head(buf, slots, |slots| library::headers(buf, slots))
+    in_head(buf.len(), slots, |slots| library::headers(buf, slots))
 }
 
 /// Where the error lies that [`parse_chunk_size`](crate::parse_chunk_size) answers on these bytes:
@@ -82,28 +83,26 @@ pub fn chunk_size_error_position(buf: &[u8]) -> Option<usize> {
     library::chunk_size(buf).err()
 }
 
-/// How many headers are read at once: there is no memory for as many as the caller had.
-const AT_ONCE: usize = 64;
+/// How many slots there are without memory from the heap: more headers are rare.
+const FEW: usize = 64;
 
-/// Where the error of a head lies that is read with so many slots.
-///
-/// Where that is more than are read at once, a header without a slot is no error yet: what begins
-/// there is read on as headers alone, since no setting changes how headers are read.
+/// The bytes of the shortest header: a name of one byte, the colon and LF.
+const SHORTEST: usize = 3;
+
+/// Where the error of a head lies that is read from so many bytes with so many slots.
 pub(crate) fn in_head<'buf, Line>(
-    buf: &'buf [u8],
+    length: usize,
     slots: usize,
-    read: impl for<'lent> FnOnce(Slots<'lent, 'buf>) -> Answer<'lent, 'buf, Line>,
+    read: impl for<'lent> Fn(Slots<'lent, 'buf>) -> Answer<'lent, 'buf, Line>,
 ) -> Option<usize> {
-    let mut headers = [EMPTY_HEADER; AT_ONCE];
-    let (mut start, mut left) = (0, slots);
-    let mut fault = read((&mut headers[..left.min(AT_ONCE)]).into())
-        .result
-        .err()?;
-    while fault.error == Error::TooManyHeaders && left > AT_ONCE {
-        start += fault.position;
-        left -= AT_ONCE;
-        let lent = &mut headers[..left.min(AT_ONCE)];
-        fault = library::headers(&buf[start..], lent.into()).result.err()?;
+    let mut few = [EMPTY_HEADER; FEW];
+    let lent = &mut few[..slots.min(FEW)];
+    let fault = read(lent.into()).result.err()?;
+    if fault.error != Error::TooManyHeaders || slots <= FEW {
+        return Some(fault.position);
     }
-    Some(start + fault.position)
+    // So many bytes have no more headers, so more slots would change nothing.
+    let mut enough = vec![EMPTY_HEADER; slots.min(length / SHORTEST)];
+    let fault = read(enough[..].as_mut().into()).result.err()?;
+    Some(fault.position)
 }

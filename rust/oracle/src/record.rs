@@ -1,6 +1,7 @@
 //! The rule by which the recorded answers are made: the same rows at every run.
 
 mod heads;
+mod lenient;
 mod pins;
 mod settings;
 
@@ -42,6 +43,7 @@ pub(crate) fn queries() -> Result<Vec<Query>, String> {
     queries.extend(SHORT.iter().chain(&LONG).flat_map(slot_counts));
     queries.extend(SHORT.iter().flat_map(damages));
     queries.extend(settings::queries());
+    queries.extend(lenient::queries());
     Ok(without_repeats(queries))
 }
 

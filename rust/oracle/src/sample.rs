@@ -1,16 +1,17 @@
 //! The rule by which the sample is made: the same rows at every run.
 //!
-//! The sample is many of httparse's answers under default settings, as rows of numbers; a proved
-//! program reads them from its standard input and replays them.
+//! The sample is many of httparse's answers, with the settings that Headreader has, as rows of numbers;
+//! a proved program reads them from its standard input and replays them.
 
 mod chunk_lines;
 mod heads;
+mod places;
 mod row;
 mod starts;
 mod strings;
 
 use crate::{answer, record};
-use answers::{Query, Settings};
+use answers::{bits, Query};
 
 /// How many slots the program that replays the rows has room for.
 const ROOM_FOR_SLOTS: usize = 16;
@@ -32,14 +33,15 @@ fn queries() -> Result<Vec<Query>, String> {
     let mut queries = record::queries()?;
     queries.retain(can_be_replayed);
     queries.extend(starts::queries());
+    queries.extend(places::queries());
     queries.extend(chunk_lines::queries());
     queries.extend(heads::queries());
     Ok(queries)
 }
 
-/// Whether there is room for a query, and it has no settings, which a row cannot tell.
+/// Whether there is room for a query, and no settings that Headreader does not have.
 fn can_be_replayed(query: &Query) -> bool {
-    query.settings == Settings::default()
+    query.settings.bits() & !bits::SUPPORTED == 0
         && query.slots <= ROOM_FOR_SLOTS
         && query.input.len() <= ROOM_FOR_BYTES
 }

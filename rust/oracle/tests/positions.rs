@@ -78,12 +78,12 @@ fn least(row: &Example) -> usize {
     least
 }
 
-/// The bytes before the position are incomplete and fill the slots, and one slot more holds the
-/// header that begins there as soon as there is an error.
+/// The bytes up to the position and at it are incomplete and fill the slots, and one slot more holds
+/// the header that begins there as soon as there is an error.
 fn check_too_many(row: &Example, position: usize) {
-    let before = beginning(&row.query, position, 0);
-    assert!(is_incomplete(&before), "line {}: {before}", row.line);
-    assert_eq!(slots(&before).written.len(), row.query.slots);
+    let begun = beginning(&row.query, position + 1, 0);
+    assert!(is_incomplete(&begun), "line {}: {begun}", row.line);
+    assert_eq!(slots(&begun).written.len(), row.query.slots);
     let least = least(row);
     let roomier = beginning(&row.query, least, 1);
     assert_eq!(

@@ -1,11 +1,12 @@
 //! The sample is what the oracle makes now, of the size wanted, and shows every kind of answer.
 
+use answers::{bits, Call};
 use std::collections::{BTreeMap, HashSet};
 use std::ops::RangeInclusive;
 
 const SAMPLE: &str = concat!(env!("CARGO_MANIFEST_DIR"), "/../../crates/replay/stdin");
 
-const ROWS: RangeInclusive<usize> = 20_000..=30_000;
+const ROWS: RangeInclusive<usize> = 20_000..=40_000;
 const MOST_BYTES: usize = 2_500_000;
 
 /// For each call the kinds that it can answer; src/sample/row.rs tells the numbers of both.
@@ -50,11 +51,14 @@ fn every_row_has_the_form_told() {
     for row in sample().lines() {
         let words: Vec<&str> = row.split(' ').collect();
         let call = number(words[0]);
-        let slots = number(words[1]);
+        let settings = number(words[1]);
+        assert!(call < 2 || settings == 0, "{row}");
+        assert_eq!(settings & !u64::from(bits::SUPPORTED), 0, "{row}");
+        let slots = number(words[2]);
         assert!(slots <= if call == 3 { 0 } else { 16 }, "{row}");
-        assert!(is_input(words[2]), "{row}");
-        let outs: Vec<u64> = words[3..].iter().map(|word| number(word)).collect();
-        assert!(outs[1] <= farthest(words[2], outs[0]), "{row}");
+        assert!(is_input(words[3]), "{row}");
+        let outs: Vec<u64> = words[4..].iter().map(|word| number(word)).collect();
+        assert!(outs[1] <= farthest(words[3], outs[0]), "{row}");
         let written = if call == 3 { 0 } else { outs[2] };
         assert!(written <= slots, "{row}");
         assert_eq!(outs.len() as u64, 9 + 4 * written, "{row}");
@@ -67,7 +71,7 @@ fn every_kind_occurs_often_enough() {
     for row in sample().lines() {
         let words: Vec<&str> = row.split(' ').collect();
         *counts
-            .entry((number(words[0]), number(words[3])))
+            .entry((number(words[0]), number(words[4])))
             .or_default() += 1;
     }
     let expected: Vec<(u64, u64)> = KINDS
@@ -78,6 +82,23 @@ fn every_kind_occurs_often_enough() {
     for ((call, kind), count) in counts {
         println!("call {call} kind {kind}: {count} rows");
         assert!(count >= FEWEST, "call {call} kind {kind}");
+    }
+}
+
+/// Every setting is there alone, and all of them together, with every kind of answer.
+#[test]
+fn every_setting_occurs_often_enough() {
+    let sample = sample();
+    let rows: Vec<Vec<&str>> = sample.lines().map(|row| row.split(' ').collect()).collect();
+    for (call, alone) in [(0, bits::of(Call::Request)), (1, bits::of(Call::Response))] {
+        for settings in bits::singles(alone).into_iter().chain([bits::SUPPORTED]) {
+            let is_asked =
+                |row: &&Vec<&str>| number(row[0]) == call && number(row[1]) == u64::from(settings);
+            let asked = rows.iter().filter(is_asked);
+            let kinds: HashSet<u64> = asked.clone().map(|row| number(row[4])).collect();
+            assert!(asked.count() >= FEWEST, "call {call} settings {settings}");
+            assert!(kinds.contains(&0) && kinds.contains(&1) && kinds.len() > 2);
+        }
     }
 }
 

@@ -7,10 +7,10 @@ use Rattle.blocks.proofs.header_block.Statement.{statement}
 use Rattle.blocks.proofs.header_block.Tie as tie
 
 abbrev Inv-loop : tie.InvT-loop
-Inv-loop s at slots₀ n i₀ count₀ slots i count = Kept n s slots₀ slots at i count
+Inv-loop s at slots₀ l n i₀ count₀ slots i count = Kept l n s slots₀ slots at i count
 
 abbrev μ-loop : tie.MeasureT-loop
-μ-loop s at slots₀ n i₀ count₀ slots i count = n - count
+μ-loop s at slots₀ l n i₀ count₀ slots i count = n - count
 
 pub header-block-spec : {M : Type 1} → statement M
 header-block-spec =

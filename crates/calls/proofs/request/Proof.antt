@@ -1,8 +1,8 @@
 -- The call tells what an exact reader answers, and so keeps its promises.
 -- Assumes nothing.
 use borrow.Author.Needs.{needs}
-use Rattle.rules.specs.Settings.{rulesOf}
-use Rattle.agreement.specs.Starts.{settings-fixed}
+use Rattle.rules.specs.Settings.{requestRules}
+use Rattle.agreement.specs.Starts.{request-fixed}
 use Rattle.agreement.specs.Calls.{request-promise, request-fault}
 use Rattle.calls.proofs.request.Statement.{statement}
 use Rattle.calls.proofs.request.Tie as tie
@@ -16,4 +16,4 @@ request-spec =
     (λ c.
     let t = c .before .before .request .ensures in
     let settings = c .before .before .before .before .before .before .args .settings in
-    (t, (request-promise (settings-fixed settings) t, request-fault (rulesOf settings) t))))
+    (t, (request-promise (request-fixed settings) t, request-fault (requestRules settings) t))))

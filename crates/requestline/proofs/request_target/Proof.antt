@@ -2,6 +2,7 @@
 -- Assumes nothing.
 use borrow.Author.Needs.{needs}
 use Rattle.parts.specs.Ways.{ways}
+use Rattle.requestline.specs.RequestLine.{gapped}
 use Rattle.requestline.proofs.request_target.Statement.{statement}
 use Rattle.requestline.proofs.request_target.Tie as tie
 
@@ -10,12 +11,13 @@ request-target-spec =
     tie.close
     (tie.spec
     (λ c κs. search needs)
-    (λ c. search needs)
     (λ c κs. search needs)
     (λ c. search needs)
     (λ c κs. search needs)
     (λ c. search needs)
     (λ c κs. search needs)
-    (λ c. search (needs, ways))
-    (λ c. search (needs, ways))
-    (λ c. search (needs, ways)))
+    (λ c. search needs)
+    (λ c κs. search needs)
+    (λ c. search (needs, gapped, ways))
+    (λ c. search (needs, gapped, ways))
+    (λ c. search (needs, gapped, ways)))

@@ -3,7 +3,7 @@
 use borrow.Author.Needs.{needs}
 use Prim.Native.Nat.{_-_, _/_}
 use lib.ListN.{length}
-use Rattle.rules.specs.Settings.{rulesOf}
+use Rattle.rules.specs.Settings.{requestRules}
 use Rattle.grammar.specs.Message.{request-head}
 use Rattle.heads.specs.Calls.{request}
 use Rattle.rowread.specs.Reading.{Reading, reading-within, reading-wrong-within, readings}
@@ -11,7 +11,7 @@ use Rattle.rows.proofs.requests.Statement.{statement}
 use Rattle.rows.proofs.requests.Tie as tie
 
 abbrev Inv-loop : tie.InvT-loop
-Inv-loop s slots₀ ends₀ settings at₀ count₀ slots ends at count = Reading (request-head (rulesOf settings)) (request (rulesOf settings)) (length slots₀ / 4) s slots₀ ends₀ slots ends at count
+Inv-loop s slots₀ ends₀ settings at₀ count₀ slots ends at count = Reading (request-head (requestRules settings)) (request (requestRules settings)) (length slots₀ / 4) s slots₀ ends₀ slots ends at count
 
 abbrev μ-loop : tie.MeasureT-loop
 μ-loop s slots₀ ends₀ settings at₀ count₀ slots ends at count = length s - at

@@ -3,7 +3,7 @@
 use borrow.Author.Needs.{needs}
 use Prim.Native.Nat.{_-_, _/_}
 use lib.ListN.{length}
-use Rattle.rules.specs.Rules.{default}
+use Rattle.rules.specs.Settings.{responseRules}
 use Rattle.grammar.specs.Message.{response-head}
 use Rattle.heads.specs.Calls.{response}
 use Rattle.rowread.specs.Reading.{Reading, reading-within, reading-wrong-within, readings}
@@ -11,10 +11,10 @@ use Rattle.rows.proofs.responses.Statement.{statement}
 use Rattle.rows.proofs.responses.Tie as tie
 
 abbrev Inv-loop : tie.InvT-loop
-Inv-loop s slots₀ ends₀ at₀ count₀ slots ends at count = Reading (response-head default) (response default) (length slots₀ / 4) s slots₀ ends₀ slots ends at count
+Inv-loop s slots₀ ends₀ settings at₀ count₀ slots ends at count = Reading (response-head (responseRules settings)) (response (responseRules settings)) (length slots₀ / 4) s slots₀ ends₀ slots ends at count
 
 abbrev μ-loop : tie.MeasureT-loop
-μ-loop s slots₀ ends₀ at₀ count₀ slots ends at count = length s - at
+μ-loop s slots₀ ends₀ settings at₀ count₀ slots ends at count = length s - at
 
 -- the head that was read ends within the input
 add-at : tie.Need-add-at Inv-loop μ-loop

@@ -2,6 +2,7 @@
 -- Assumes nothing.
 use borrow.Author.Needs.{needs}
 use Rattle.parts.specs.Ways.{ways}
+use Rattle.statusline.specs.StatusLine.{gapped}
 use Rattle.statusline.proofs.status_reason.Statement.{statement}
 use Rattle.statusline.proofs.status_reason.Tie as tie
 
@@ -10,11 +11,12 @@ status-reason-spec =
     tie.close
     (tie.spec
     (λ c κs. search needs)
+    (λ c κs. search needs)
     (λ c. search needs)
     (λ c. search needs)
     (λ c κs. search needs)
     (λ c. search needs)
     (λ c κs. search needs)
-    (λ c. search (needs, ways))
-    (λ c. search (needs, ways))
-    (λ c. search (needs, ways)))
+    (λ c. search (needs, gapped, ways))
+    (λ c. search (needs, gapped, ways))
+    (λ c. search (needs, gapped, ways)))

@@ -1,6 +1,8 @@
 //! The plain form as its definition says, made of httparse's answer.
 
 use crate::numbers::{Numbers, OUT, SLOT};
+use crate::Case;
+use answers::bits::MULTILINE_HEADERS;
 use answers::Call;
 
 /// Where the pieces of the start line stand in `out`.
@@ -48,6 +50,12 @@ fn piece(input: &[u8], offset: u64, length: u64) -> &[u8] {
     &input[offset as usize..][..length as usize]
 }
 
+/// Whether folds are read and a value has a line end inside: then the head has no plain form.
+pub fn is_folded(case: &Case, answer: &Numbers) -> bool {
+    let has_line_end = |bytes: &[u8]| bytes.iter().any(|byte| b"\r\n".contains(byte));
+    case.has(MULTILINE_HEADERS) && names_and_values(case.input, answer).any(has_line_end)
+}
+
 /// The plain form as its definition says, made of httparse's answer.
 pub fn form(call: Call, input: &[u8], answer: &Numbers, form: &mut Vec<u8>) {
     let mut line = fields(call, input, answer);
@@ -81,4 +89,48 @@ pub fn form(call: Call, input: &[u8], answer: &Numbers, form: &mut Vec<u8>) {
         form.extend_from_slice(b"\r\n");
     }
     form.extend_from_slice(b"\r\n");
+}
+
+#[cfg(test)]
+mod tests {
+    use super::*;
+    use crate::theirs;
+    use answers::bits::DEFAULT;
+
+    fn is_folded_in(settings: u32, input: &[u8]) -> bool {
+        let case = Case {
+            call: Call::Response,
+            slots: 2,
+            remainder: 0,
+            settings,
+            input,
+        };
+        let mut answer = Numbers::default();
+        answer.lend(case.room());
+        theirs::read(&case, &mut answer);
+        assert_eq!(answer.status, 0);
+        is_folded(&case, &answer)
+    }
+
+    #[test]
+    fn a_line_end_inside_a_value_is_a_fold() {
+        assert!(is_folded_in(
+            MULTILINE_HEADERS,
+            b"HTTP/1.1 200\nA: b\nC: d\n e\n\n"
+        ));
+        assert!(is_folded_in(
+            MULTILINE_HEADERS,
+            b"HTTP/1.1 200\nA:b\r\n\tc\nD:\n\n"
+        ));
+    }
+
+    #[test]
+    fn line_ends_around_a_value_are_none() {
+        assert!(!is_folded_in(
+            MULTILINE_HEADERS,
+            b"HTTP/1.1 200\nA:\n b\nC: d\n \n\n"
+        ));
+        assert!(!is_folded_in(MULTILINE_HEADERS, b"HTTP/1.1 200\nA: b\n\n"));
+        assert!(!is_folded_in(DEFAULT, b"HTTP/1.1 200\nA: b\n\n"));
+    }
 }

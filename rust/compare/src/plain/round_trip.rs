@@ -4,6 +4,7 @@ use super::form::{fields, form, numbers};
 use super::{write, Written, UNTOUCHED};
 use crate::numbers::Numbers;
 use crate::{expected, ours, Case};
+use answers::bits::DEFAULT;
 
 /// What is put behind a plain form before it is read back: a library must not care.
 const BEHIND: &[u8] = b"A: b\r\n";
@@ -24,10 +25,10 @@ impl RoundTrip {
         self.expected.clear();
         form(case.call, case.input, answer, &mut self.expected);
         let length = self.expected.len();
-        let refused = write(case.call, case.input, answer, &mut self.again, length - 1);
+        let refused = write(case, answer, &mut self.again, length - 1);
         expect("too little room", refused, Written::Needs(length))?;
         expect_untouched(&self.again)?;
-        let written = write(case.call, case.input, answer, &mut self.written, length);
+        let written = write(case, answer, &mut self.written, length);
         expect("room enough", written, Written::All(length))?;
         if self.written != self.expected {
             return Err(format!(
@@ -36,18 +37,29 @@ impl RoundTrip {
                 self.written.escape_ascii()
             ));
         }
-        self.read_back(case, answer)
+        self.written.extend_from_slice(BEHIND);
+        self.read_back(case, answer, DEFAULT)?;
+        match case.settings {
+            DEFAULT => Ok(()),
+            settings => self.read_back(case, answer, settings),
+        }
     }
 
-    /// Both libraries must find the same fields in what was written, and the same bytes are written of them.
-    fn read_back(&mut self, case: &Case, answer: &Numbers) -> Result<(), String> {
-        let length = self.written.len();
-        self.written.extend_from_slice(BEHIND);
+    /// Nothing may be written of a complete answer that has no plain form.
+    pub fn refuse(&mut self, case: &Case, answer: &Numbers) -> Result<(), String> {
+        let refused = write(case, answer, &mut self.again, case.input.len() * 2);
+        expect("a folded value", refused, Written::Unwritable)?;
+        expect_untouched(&self.again)
+    }
+
+    /// With these settings both libraries must find the same fields in what was written, and the same bytes are written of them.
+    fn read_back(&mut self, case: &Case, answer: &Numbers, settings: u32) -> Result<(), String> {
+        let length = self.expected.len();
         let plain = Case {
             call: case.call,
             slots: answer.out.numbers()[1] as usize,
             remainder: 0,
-            ascii_targets: case.ascii_targets,
+            settings,
             input: &self.written,
         };
         self.back.lend(plain.room());
@@ -71,13 +83,7 @@ impl RoundTrip {
                 self.written.escape_ascii()
             ));
         }
-        let again = write(
-            case.call,
-            &self.written,
-            &self.ours_back,
-            &mut self.again,
-            length,
-        );
+        let again = write(&plain, &self.ours_back, &mut self.again, length);
         expect("writing again", again, Written::All(length))?;
         match self.again == self.written[..length] {
             true => Ok(()),
@@ -126,7 +132,7 @@ mod tests {
             call,
             slots: 1,
             remainder: 0,
-            ascii_targets: false,
+            settings: DEFAULT,
             input: INPUT,
         };
         RoundTrip::default().go(&case, answer)

@@ -1,11 +1,12 @@
 //! A caller that looks at all that it gets; compiled once for each library.
 
 use super::config;
-use super::library::{self, Header, Request, Response, Status};
+use super::library::{self, Header, ParserConfig, Request, Response, Status};
 use crate::types::seen::{
     place, Ended, Line, Place, Seen, Way, OTHER_REQUEST, OTHER_RESPONSE, UNTOUCHED,
 };
 use crate::Case;
+use answers::bits;
 use answers::Call;
 use std::fmt::{Debug, Display};
 use std::mem::MaybeUninit;
@@ -29,6 +30,18 @@ pub fn call(case: &Case, way: Way) -> Seen {
         slots: memory.iter().map(slot).collect(),
         ..seen
     }
+}
+
+/// The settings of a case that httparse has.
+pub fn usual(case: &Case) -> ParserConfig {
+    let mut config = ParserConfig::default();
+    config
+        .allow_spaces_after_header_name_in_responses(case.has(bits::SPACES_AFTER_HEADER_NAME))
+        .allow_obsolete_multiline_headers_in_responses(case.has(bits::MULTILINE_HEADERS))
+        .allow_multiple_spaces_in_request_line_delimiters(case.has(bits::SPACES_IN_REQUEST_LINE))
+        .allow_multiple_spaces_in_response_status_delimiters(case.has(bits::SPACES_IN_STATUS_LINE))
+        .allow_space_before_first_header_name(case.has(bits::SPACE_BEFORE_FIRST_HEADER_NAME));
+    config
 }
 
 fn request<'input>(case: &Case<'input>, way: Way, memory: &mut [Header<'input>]) -> Seen {

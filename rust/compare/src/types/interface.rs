@@ -40,6 +40,23 @@ fn functions<'h, 'b: 'h>() {
     let _: fn(Status<u8>) -> u8 = Status::unwrap;
 }
 
+/// What sets each of the settings.
+const SETTERS: [fn(&mut ParserConfig, bool) -> &mut ParserConfig; 5] = [
+    ParserConfig::allow_spaces_after_header_name_in_responses,
+    ParserConfig::allow_obsolete_multiline_headers_in_responses,
+    ParserConfig::allow_multiple_spaces_in_request_line_delimiters,
+    ParserConfig::allow_multiple_spaces_in_response_status_delimiters,
+    ParserConfig::allow_space_before_first_header_name,
+];
+
+/// What asks for all of them but the first.
+const GETTERS: [fn(&ParserConfig) -> bool; 4] = [
+    ParserConfig::obsolete_multiline_headers_in_responses_are_allowed,
+    ParserConfig::multiple_spaces_in_request_line_delimiters_are_allowed,
+    ParserConfig::multiple_spaces_in_response_status_delimiters_are_allowed,
+    ParserConfig::space_before_first_header_name_are_allowed,
+];
+
 const _: fn() = traits;
 
 /// Every type has its traits.
@@ -111,12 +128,26 @@ pub fn texts() -> Vec<String> {
     let mut texts: Vec<String> = ERRORS.iter().map(error_texts).collect();
     texts.push(format!("{InvalidChunkSize:?}, {InvalidChunkSize:>30}"));
     texts.push(format!("{:?}, {EMPTY_HEADER:?}", ParserConfig::default()));
+    texts.extend(SETTERS.iter().map(|&set| setting_texts(set)));
     texts.push(format!("{:?}", [Status::Complete(1), Status::Partial]));
     for value in [&b"a \"b\"\t"[..], "\u{20ac}".as_bytes(), b"\xff\"", b""] {
         let header = Header { name: "A", value };
         texts.push(format!("{header:?}, {header:#?}"));
     }
     texts
+}
+
+/// What is shown and answered of the settings with one of them on, and off again.
+fn setting_texts(set: fn(&mut ParserConfig, bool) -> &mut ParserConfig) -> String {
+    let mut config = ParserConfig::default();
+    let [on, off] = [true, false].map(|value| {
+        set(&mut config, value);
+        format!(
+            "{config:?}, {:?}",
+            GETTERS.map(|is_allowed| is_allowed(&config))
+        )
+    });
+    format!("{on}, {off}")
 }
 
 #[allow(deprecated)]

@@ -2,6 +2,7 @@
 
 use super::seen::{Seen, Way};
 use crate::Case;
+use answers::bits::ASCII_TARGETS;
 use answers::Call;
 use headreader as library;
 
@@ -36,9 +37,9 @@ fn position(case: &Case, way: Way) -> Option<usize> {
     }
 }
 
-/// The settings of a case.
+/// The settings of a case, ours too.
 fn config(case: &Case) -> library::ParserConfig {
-    let mut config = library::ParserConfig::default();
-    config.ascii_targets(case.ascii_targets);
+    let mut config = caller::usual(case);
+    config.ascii_targets(case.has(ASCII_TARGETS));
     config
 }

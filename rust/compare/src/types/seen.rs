@@ -2,6 +2,7 @@
 
 use crate::text::STATUSES;
 use crate::Case;
+use answers::bits::DEFAULT;
 use answers::Call;
 
 /// A way to read a case.
@@ -43,7 +44,7 @@ impl Way {
 /// Every way to read a case; all but two read without settings.
 pub fn ways(case: &Case) -> &'static [Way] {
     match case.call {
-        Call::Request | Call::Response if case.ascii_targets => {
+        Call::Request | Call::Response if case.settings != DEFAULT => {
             &[Way::Settings, Way::SettingsUninit]
         }
         Call::Request => &[

@@ -1,11 +1,12 @@
 //! seeds FOLDER RECORDED EXAMPLE..: writes what fuzzing begins with to a folder, a file for each call.
 //!
 //! RECORDED is a file of recorded answers, of which the queries are taken; each EXAMPLE is read by
-//! every call. To these come new heads of every shape, with the setting off and on.
+//! every call. To these come new heads of every shape, with the settings that each needs and with all.
 
+use answers::bits::DEFAULT;
 use answers::recorded::rows;
 use compare::{Case, Random, CALLS};
-use fuzz::{heads, write};
+use fuzz::{heads, write, SETTINGS};
 use std::path::{Path, PathBuf};
 use std::{env, fs, process};
 
@@ -48,18 +49,18 @@ fn seeds(recorded: &Path, examples: &[PathBuf]) -> Result<Vec<Vec<u8>>, String> 
                 call,
                 slots: SLOTS,
                 remainder: 0,
-                ascii_targets: false,
+                settings: DEFAULT,
                 input: &input,
             })
         }));
     }
-    for head in heads(LONGEST, &mut Random::new(SEED)) {
-        seeds.extend([false, true].map(|ascii_targets| {
+    for (head, needed) in heads(LONGEST, &mut Random::new(SEED)) {
+        seeds.extend([needed, SETTINGS].map(|settings| {
             write(&Case {
                 call: head.call,
                 slots: head.headers,
                 remainder: 0,
-                ascii_targets,
+                settings,
                 input: &head.bytes,
             })
         }));
@@ -67,7 +68,8 @@ fn seeds(recorded: &Path, examples: &[PathBuf]) -> Result<Vec<Vec<u8>>, String> 
     Ok(seeds)
 }
 
-/// The recorded queries, those under settings too: without them they are calls as good as any.
+/// The recorded queries; a setting that Headreader does not have is ignored, which leaves a call as good
+/// as any.
 fn recorded_calls(recorded: &Path) -> Result<Vec<Vec<u8>>, String> {
     let text = fs::read_to_string(recorded).map_err(|error| at(recorded, &error))?;
     let rows = rows(&text).map_err(|error| at(recorded, &error))?;
@@ -76,7 +78,7 @@ fn recorded_calls(recorded: &Path) -> Result<Vec<Vec<u8>>, String> {
             call: query.call,
             slots: query.slots,
             remainder: 0,
-            ascii_targets: false,
+            settings: query.settings.bits(),
             input: &query.input,
         })
     };

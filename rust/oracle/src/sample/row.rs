@@ -1,8 +1,9 @@
-//! One query under default settings and its answer as a row of words, separated by single spaces:
+//! One query and its answer as a row of words, separated by single spaces:
 //!
-//! `CALL SLOTS INPUT KIND OUT0 OUT1 OUT2 OUT3 OUT4 OUT5 OUT6 OUT7 [SLOT NUMBERS..]`
+//! `CALL SETTINGS SLOTS INPUT KIND OUT0 OUT1 OUT2 OUT3 OUT4 OUT5 OUT6 OUT7 [SLOT NUMBERS..]`
 //!
 //! * CALL: 0 request, 1 response, 2 headers, 3 chunk size.
+//! * SETTINGS: the bits of those that are on, as include/headreader.h has them, added up.
 //! * SLOTS: the number of slots lent; 0 for a chunk size.
 //! * INPUT: two hexadecimal digits for each byte; `-` if there is none.
 //! * KIND: 0 complete, 1 incomplete, 2 HeaderName, 3 HeaderValue, 4 NewLine, 5 Status, 6 Token,
@@ -27,6 +28,7 @@ use answers::{Answer, Call, ChunkSize, Header, Outcome, Piece, Query, Reason, Sl
 pub fn write(query: &Query, answer: &Answer) -> String {
     let mut words = vec![
         number_of(query.call).to_string(),
+        query.settings.bits().to_string(),
         query.slots.to_string(),
         hexadecimal(&query.input),
     ];
@@ -165,19 +167,28 @@ mod tests {
             (
                 "request\tdefault\t3\t\"A b HTTP/1.1\\nC:d\\nE:\\n\\n\"",
                 "complete 21 method=0+1 target=2+1 version=1 headers=[13+1:15+1 17+1:19+0] untouched=1",
-                "0 3 41206220485454502f312e310a433a640a453a0a0a 0 21 2 7 0 1 2 1 1 13 1 15 1 17 1 19 0",
+                "0 0 3 41206220485454502f312e310a433a640a453a0a0a 0 21 2 7 0 1 2 1 1 13 1 15 1 17 1 19 0",
             ),
             (
                 "response\tdefault\t0\t\"\\nHTTP/1.1 204 a\\n\\n\"",
                 "complete 17 version=1 code=204 reason=14+1 headers=[] untouched=0",
-                "1 0 0a485454502f312e312032303420610a0a 0 17 0 28 1 204 14 1 0",
+                "1 0 0 0a485454502f312e312032303420610a0a 0 17 0 28 1 204 14 1 0",
             ),
             (
                 "headers\tdefault\t2\t\"A:\\n\\n\"",
                 "complete 4 headers=[0+1:2+0] untouched=1",
-                "2 2 413a0a0a 0 4 1 0 0 0 0 0 0 0 1 2 0",
+                "2 0 2 413a0a0a 0 4 1 0 0 0 0 0 0 0 1 2 0",
             ),
         ]);
+    }
+
+    #[test]
+    fn settings_are_written_as_bits() {
+        check(&[(
+            "response\tmultiline-headers+space-before-first-header-name\t1\t\"HTTP/1.1 204\\n A:\"",
+            "incomplete version=1 code=204 reason=+0 headers=[] untouched=1",
+            "1 18 1 485454502f312e31203230340a20413a 1 0 0 28 1 204 0 0 0",
+        )]);
     }
 
     #[test]
@@ -186,22 +197,22 @@ mod tests {
             (
                 "request\tdefault\t1\t\"\\nA \\xff \"",
                 "error Token at 4 method=1+1 target=- version=- headers=[] untouched=1",
-                "0 1 0a4120ff20 6 4 0 1 1 1 0 0 0",
+                "0 0 1 0a4120ff20 6 4 0 1 1 1 0 0 0",
             ),
             (
                 "response\tdefault\t1\t\"HTTP/1.0 000\"",
                 "incomplete version=0 code=0 reason=- headers=[] untouched=1",
-                "1 1 485454502f312e3020303030 1 0 0 12 0 0 0 0 0",
+                "1 0 1 485454502f312e3020303030 1 0 0 12 0 0 0 0 0",
             ),
             (
                 "response\tdefault\t1\t\"HTTP/1.0 000\\n:\"",
                 "error HeaderName at 13 version=0 code=0 reason=+0 headers=[] untouched=1",
-                "1 1 485454502f312e30203030300a3a 2 13 0 28 0 0 0 0 0",
+                "1 0 1 485454502f312e30203030300a3a 2 13 0 28 0 0 0 0 0",
             ),
             (
                 "headers\tdefault\t1\t\"\"",
                 "incomplete headers=[] untouched=1",
-                "2 1 - 1 0 0 0 0 0 0 0 0",
+                "2 0 1 - 1 0 0 0 0 0 0 0 0",
             ),
         ]);
     }
@@ -223,17 +234,17 @@ mod tests {
             (
                 "chunk-size\tdefault\t0\t\"ffffffffffffffff\\r\\n\"",
                 "complete 18 size=18446744073709551615",
-                "3 0 666666666666666666666666666666660d0a 0 18 18446744073709551615 0 0 0 0 0 0",
+                "3 0 0 666666666666666666666666666666660d0a 0 18 18446744073709551615 0 0 0 0 0 0",
             ),
             (
                 "chunk-size\tdefault\t0\t\"1\\r\"",
                 "incomplete",
-                "3 0 310d 1 0 0 0 0 0 0 0 0",
+                "3 0 0 310d 1 0 0 0 0 0 0 0 0",
             ),
             (
                 "chunk-size\tdefault\t0\t\"1g\"",
                 "error InvalidChunkSize at 1",
-                "3 0 3167 9 1 0 0 0 0 0 0 0",
+                "3 0 0 3167 9 1 0 0 0 0 0 0 0",
             ),
         ]);
     }

@@ -5,7 +5,7 @@ use crate::record::plain;
 use answers::{Call, Query};
 
 /// A byte of each kind that the parts of a head tell apart.
-const ALPHABET: &[u8] = b"a \t:\r\n\x00\x801";
+pub const ALPHABET: &[u8] = b"a \t:\r\n\x00\x801";
 
 /// Starts of good heads; more than one count of slots where a header can be finished soon.
 const STARTS: &[(Call, &[usize], &[u8])] = &[
