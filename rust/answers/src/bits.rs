@@ -23,8 +23,8 @@ pub const SUPPORTED: u32 = SPACES_AFTER_HEADER_NAME
     | SPACES_IN_STATUS_LINE
     | SPACE_BEFORE_FIRST_HEADER_NAME;
 
-/// The settings of spaces and folds that change how httparse reads a call.
-pub fn of_httparse(call: Call) -> u32 {
+/// The settings of httparse that change how a call is read.
+pub fn of(call: Call) -> u32 {
     match call {
         Call::Request => SPACES_IN_REQUEST_LINE | SPACE_BEFORE_FIRST_HEADER_NAME,
         Call::Response => {
@@ -35,11 +35,6 @@ pub fn of_httparse(call: Call) -> u32 {
         }
         Call::Headers | Call::ChunkSize => DEFAULT,
     }
-}
-
-/// Those of them that Headreader has.
-pub fn of(call: Call) -> u32 {
-    of_httparse(call) & SUPPORTED
 }
 
 /// Every combination of some bits, that of none first.

@@ -26,7 +26,7 @@ const HEADS: [Head; 3] = [
 pub fn queries() -> Vec<Query> {
     let mut queries = Vec::new();
     for head in &HEADS {
-        let all = bits::of_httparse(head.call);
+        let all = bits::of(head.call);
         queries.extend(with(all, damages(head)));
         for settings in bits::combinations(all) {
             queries.extend(with(settings, slot_counts(head)));
@@ -54,7 +54,7 @@ mod tests {
     fn the_heads_are_good_with_all_settings() {
         for head in &HEADS {
             let whole = slot_counts(head).pop().expect("the last has slots enough");
-            let query = with(bits::of_httparse(head.call), vec![whole]).remove(0);
+            let query = with(bits::of(head.call), vec![whole]).remove(0);
             let answer = crate::answer(&query).unwrap().to_string();
             let expected = format!("complete {} ", head.input.len());
             assert!(answer.starts_with(&expected), "{answer}");

@@ -64,10 +64,7 @@ const PLACES: &[Places] = &[
 ];
 
 pub fn queries() -> Vec<Query> {
-    let supported = PLACES
-        .iter()
-        .filter(|places| places.setting & SUPPORTED != 0);
-    supported.flat_map(Places::queries).collect()
+    PLACES.iter().flat_map(Places::queries).collect()
 }
 
 impl Places {
