@@ -4,12 +4,16 @@ use Prim.Native.Nat.{ℕ, _+_, _-_, _/_, _≤_}
 use native.Mathlib.Omega.{arith}
 use mathlib.Core.Path.{_≡_, refl, sym, ap, subst, _∙_}
 use mathlib.Core.List.{List, [], _++_}
+use mathlib.Core.Bool.{false}
 use lib.ListN.{length, take}
 use Rattle.reader.specs.Tests.{never}
 use Rattle.reader.specs.Seq.{first}
 use Rattle.reader.specs.Answer.{got, short, bad, answered, answered-bad, bad-stays, lapwise}
 use Rattle.reader.specs.Branch.{fresh}
 use Rattle.rules.specs.Rules.{Rules, default}
+use Rattle.rules.specs.declared.Settings.{Settings}
+use Rattle.rules.specs.Settings.{requestRules, responseRules}
+use Rattle.grammar.specs.Fields.{Field}
 use Rattle.grammar.specs.Message.{header-block, request-line, request-head, status-line, response-head}
 use Rattle.parts.specs.declared.Fault.{Fault}
 use Rattle.parts.specs.declared.Passed.{Passed}
@@ -31,6 +35,7 @@ use Rattle.agreement.specs.Block.{exact-block}
 use Rattle.agreement.specs.StartLine.{exact-request-line, exact-status-line}
 use Rattle.agreement.specs.Places.{at-start}
 use Rattle.agreement.specs.Fields.{fieldsOf, block-derived, block-read, block-over, few-fields, Each, fields-in, HeaderIs, fields-are}
+use Rattle.agreement.specs.Colons.{HeaderToColon, fields-to-colon, SlotsToColon, SlotsAtOnce, slots-at-once}
 use Rattle.agreement.specs.FieldLine.{HeaderIn}
 use Rattle.agreement.specs.Inside.{request-line-in, status-line-in}
 use Rattle.agreement.specs.Full.{request-refuses, status-refuses, block-full}
@@ -110,7 +115,15 @@ module _ (n : ℕ) where
   }
 
 headers-lie : (n : ℕ) → Lies default lies-nowhere (headersOf n)
-headers-lie n = record { line = λ z. tt; fields = λ z. subst (Each (HeaderIn (length z))) (sym (given-over tt (block default n [] z 0))) (fields-in z default n [] 0 tt); are = λ z. subst (Each (HeaderIs z default)) (sym (given-over tt (block default n [] z 0))) (fields-are z default n [] 0 tt) }
+headers-lie n = record {
+  line = λ z. tt;
+  fields = λ z. subst (Each (HeaderIn (length z))) (same z) (fields-in z default n [] 0 tt);
+  are = λ z. subst (Each (HeaderIs z default)) (same z) (fields-are z default n [] 0 tt);
+  colons = λ z. subst (Each (HeaderToColon z default)) (same z) (fields-to-colon z default n [] 0 tt);
+}
+  where
+    same : (z : List ℕ) → blocks.given (block default n [] z 0) ≡ given (headersOf n z)
+    same z = sym (given-over tt (block default n [] z 0))
 
 module _ {r : Rules} (fixed : Fixed r) {s old : List ℕ} {end : Passed} {count : ℕ} {new : List ℕ} where
   pub request-promise : {line : RequestLine} → Told (request r (length old / 4) s) end line count old new → HeadPromise r (request-head r) RequestSays (RequestInside r) s old end line count new
@@ -155,3 +168,18 @@ headers-promise {s} {old} T = kept (headers-exactly (length old / 4)) (headers-l
 
 pub headers-fault : {s old : List ℕ} {r : Block} {new : List ℕ} → blocks.Told (block default (length old / 4) [] s 0) r old new → FaultPromise default (length old / 4) (headersOf (length old / 4)) s (r .end)
 headers-fault {s} {old} T = fault-promise (block-fault default (length old / 4)) (alone-told T)
+
+-- between a name and its colon nothing stands in a request, whatever is set, in headers alone, and in a response without spaces after names;
+-- in a response with them, spaces and tabs
+module _ {L K : Type 0} {Head : List ℕ → L → List Field → Type 0} {Says : List ℕ → K → L → Type 0} {In : List ℕ → K → Type 0} {s old : List ℕ} {end : Passed} {line : K} {count : ℕ} {new : List ℕ} where
+  pub request-colons : (settings : Settings) → HeadPromise (requestRules settings) Head Says In s old end line count new → SlotsAtOnce s count new
+  request-colons settings P = slots-at-once s count new (P .colons)
+
+  pub headers-colons : HeadPromise default Head Says In s old end line count new → SlotsAtOnce s count new
+  headers-colons P = slots-at-once s count new (P .colons)
+
+  pub response-colons-off : (settings : Settings) → settings .«spaces_after_name» ≡ false → HeadPromise (responseRules settings) Head Says In s old end line count new → SlotsAtOnce s count new
+  response-colons-off settings e P = slots-at-once s count new (rw e at (P .colons))
+
+  pub response-colons : (settings : Settings) → HeadPromise (responseRules settings) Head Says In s old end line count new → SlotsToColon (settings .«spaces_after_name») s count new
+  response-colons settings P = P .colons

@@ -35,6 +35,7 @@ use Rattle.agreement.specs.Places.{At, at-start, at-as, at-first, at-sec
 use Rattle.agreement.specs.Names.{allowed-blanks, some-allowed, in-allowed}
 use Rattle.agreement.specs.Folded.{NoBlank}
 use Rattle.agreement.specs.Fields.{block-begins, HeaderIs, fields-are, fieldsOf, block-derived, block-read, block-over, few-fields, Each, fields-in}
+use Rattle.agreement.specs.Colons.{HeaderToColon, fields-to-colon}
 use Rattle.agreement.specs.FieldLine.{HeaderIn}
 use Rattle.agreement.specs.Full.{LocatedLine, head-full}
 use Rattle.agreement.specs.Steps.{passed-is, Started, LineRead}
@@ -72,6 +73,7 @@ pub record Lies {K : Type 0} (r : Rules) (In : List ℕ → K → Type 0) (read 
   pub line : (z : List ℕ) → In z (knownOf (read z) .0)
   pub fields : (z : List ℕ) → Each (HeaderIn (length z)) (given (read z))
   pub are : (z : List ℕ) → Each (HeaderIs z r) (given (read z))
+  pub colons : (z : List ℕ) → Each (HeaderToColon z r) (given (read z))
 
 pub given-over : {K : Type 0} (k : K) (b : Blocks) → given (over k b) ≡ blocks.given b
 given-over k (got hs q) = refl
@@ -106,6 +108,7 @@ module _ (r : Rules) (n : ℕ) {K S : Type 0} (m : Step S K (Fault × K)) (known
     line = λ z. subst (In z) (sym (head-line z)) (h z);
     fields = λ z. head-given (Each (HeaderIn (length z))) tt z (λ q. fields-in z r n [] q tt);
     are = λ z. head-given (Each (HeaderIs z r)) tt z (λ q. fields-are z r n [] q tt);
+    colons = λ z. head-given (Each (HeaderToColon z r)) tt z (λ q. fields-to-colon z r n [] q tt);
   }
 
 -- the blanks before a block, in the grammar's words

@@ -45,7 +45,7 @@ abbrev pub Each : (Header → Type 0) → List Header → Type 0
 Each P [] = Unit {0}
 Each P (h ∷ hs) = P h × Each P hs
 
-each-more : (P : Header → Type 0) (hs : List Header) (h : Header) → Each P hs → P h → Each P (hs ++ (h ∷ []))
+pub each-more : (P : Header → Type 0) (hs : List Header) (h : Header) → Each P hs → P h → Each P (hs ++ (h ∷ []))
 each-more P [] h k x = (x, tt)
 each-more P (g ∷ hs) h k x = (k .0, each-more P hs h (k .1) x)
 
@@ -226,7 +226,7 @@ are-fields z r (h ∷ hs) k = (k .0 .0, k .0 .1, are-fields z r hs (k .1))
 line-field : {r : Rules} {l : List ℕ} {f : Field} → field-line r l f → field-name (f .name) × value-lines r (f .value)
 line-field (grammar.field-line.line n s o v t) = (n, v)
 
-header-same : {h g : Header} → header h ≡ header g → h ≡ g
+pub header-same : {h g : Header} → header h ≡ header g → h ≡ g
 header-same e = cc
 
 module _ (z : List ℕ) (r : Rules) (n : ℕ) where

@@ -26,6 +26,7 @@ use Rattle.heads.specs.Head.{Heads, Known, given, Told}
 use Rattle.agreement.specs.FieldLine.{fieldOf, HeaderIn}
 use Rattle.agreement.specs.Fields.{fieldsOf, Each, are-fields}
 use Rattle.agreement.specs.Known.{fieldsIn, SlotsInside, AreFields}
+use Rattle.agreement.specs.Colons.{SlotsToColon, slots-to-colon}
 use Rattle.agreement.specs.Exactly.{Exactly, Lies}
 use Rattle.agreement.specs.Promises.{HeadAt, HeadPromise}
 
@@ -167,6 +168,7 @@ module _ {L K : Type 0} {Head : List ℕ → L → List Field → Type 0} {Says 
     full = λ x e o. omega (arith, T .count-is, X .few s, X .full s (x, (line, given (read s))) (read-bad x e) o);
     inside = (subst (In s) (told-line T) (Y .line s), subst (λ y. SlotsInside (length s) y new) (sym (T .count-is)) (subst (SlotsInside (length s) (length (given (read s)))) (sym (T .slots)) (slots-in (length s) (given (read s)) old (Y .fields s))));
     fields = subst (AreFields r) (sym in-slots) (are-fields s r (given (read s)) (Y .are s));
+    colons = subst (λ y. SlotsToColon (r .spaces-after-name) s y new) (sym (T .count-is)) (subst (SlotsToColon (r .spaces-after-name) s (length (given (read s)))) (sym (T .slots)) (slots-to-colon s r (given (read s)) old (Y .colons s)));
     within = (subst (λ y. y ≤ length old / 4) (sym (T .count-is)) (X .few s), ap length (T .slots) ∙ filled-length (given (read s)) old (X .few s));
     untouched = ap (λ y. drop (y * 4) new) (T .count-is) ∙ ap (drop (length (given (read s)) * 4)) (T .slots) ∙ kept-behind (given (read s)) old ∙ sym (ap (λ y. drop (y * 4) old) (T .count-is));
   }

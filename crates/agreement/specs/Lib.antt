@@ -11,6 +11,7 @@ pub mod SoFar
 pub mod Folded
 pub mod FieldLine
 pub mod Fields
+pub mod Colons
 pub mod Starts
 pub mod There
 pub mod Steps

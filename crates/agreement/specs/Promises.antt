@@ -22,6 +22,7 @@ use Rattle.chunks.specs.declared.ChunkSize.{ChunkSize}
 use Rattle.chunks.specs.declared.ChunkSize.the-variants as sizes
 use Rattle.chunks.specs.Chunk.{chunk}
 use Rattle.agreement.specs.Known.{fieldsIn, SlotsInside, AreFields}
+use Rattle.agreement.specs.Colons.{SlotsToColon}
 
 -- the first q bytes are a head, and what the call told and put into the slots are its fields
 pub record HeadAt {L K : Type 0} (Head : List ℕ → L → List Field → Type 0) (Says : List ℕ → K → L → Type 0) (s : List ℕ) (q : ℕ) (line : K) (fields : List Field) : Type 0 where
@@ -54,6 +55,8 @@ pub record HeadPromise {L K : Type 0} (r : Rules) (Head : List ℕ → L → Lis
   pub inside : In s line × SlotsInside (length s) count new
   -- and the fields in the slots have names that are names and values that are values
   pub fields : AreFields r (fieldsIn s count new)
+  -- and from the end of each name to its colon stand spaces and tabs where they are allowed, and nothing else
+  pub colons : SlotsToColon (r .spaces-after-name) s count new
   -- the count is within the slots, of which there are as many as before, and those behind it are as they were
   pub within : (count ≤ length old / 4) × (length new ≡ length old)
   pub untouched : drop (count * 4) new ≡ drop (count * 4) old

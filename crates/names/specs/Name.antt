@@ -5,12 +5,12 @@ use native.Mathlib.Omega.{arith}
 use mathlib.Core.Path.{_≡_, sym, ap, _∙_}
 use mathlib.Core.List.{List}
 use mathlib.Core.Bool.{Bool, true, false, cond}
+use lib.Dec.{eqb}
 use lib.ListN.{length, getD}
-use borrow.Author.Tests.{eq-eqb, ne-eqb}
-use Rattle.reader.specs.Machine.{keep, before, refuse, Step, runAt}
+use Rattle.reader.specs.Machine.{keep, before, give, refuse, Step, runAt}
 use Rattle.reader.specs.Judged.{pass, judged}
 use Rattle.reader.specs.Seq.{Then, first, seq}
-use Rattle.reader.specs.Skip.{Skipped, skip, told-true, told-false}
+use Rattle.reader.specs.Skip.{Skipped, skip}
 use Rattle.reader.specs.Laws.{run-in, run-out}
 use Rattle.reader.specs.Answer.{Answer, got, short, bad, and, and-same, answer-seq}
 use Rattle.reader.specs.Chain.{nothing, reads, ended, answer-ended}
@@ -21,7 +21,6 @@ use Rattle.parts.specs.declared.Error.the-variants.{HeaderName}
 use Rattle.parts.specs.declared.Fault.{Fault}
 use Rattle.parts.specs.declared.Piece.{Piece}
 use Rattle.parts.specs.Answers.{piece, fault}
-use Rattle.parts.specs.Byte.{byteStep}
 
 -- no byte of the name yet, or one or more from a position on
 pub data Token : Type 0 where
@@ -33,8 +32,11 @@ abbrev pub tokenStep : Step Token Piece Fault
 tokenStep none p b = cond (isToken b) (keep (some p)) (refuse (fault HeaderName p))
 tokenStep (some a) p b = cond (isToken b) (keep (some a)) (before (piece a p))
 
+abbrev pub isColon : ℕ → Bool
+isColon b = eqb b 58
+
 abbrev pub colonStep : Step (Unit {0}) (Unit {0}) Fault
-colonStep = byteStep 58 HeaderName
+colonStep s p b = cond (isColon b) (give tt) (refuse (fault HeaderName p))
 
 abbrev pub Colon : Type 0
 Colon = Behind (Unit {0})
@@ -43,8 +45,12 @@ abbrev pub Name : Type 0
 Name = Then Token Piece Colon
 
 module _ (r : Rules) where
+  -- what is passed over between a name and its colon
+  abbrev pub beforeColon : ℕ → Bool
+  beforeColon b = blanksIf (r .spaces-after-name) b
+
   abbrev pub gapColon : Step Colon (Unit {0}) Fault
-  gapColon = behindGap (blanksIf (r .spaces-after-name)) colonStep tt
+  gapColon = behindGap beforeColon colonStep tt
 
   abbrev pub nameStep : Step Name Piece Fault
   nameStep = seq tokenStep (λ _. first tt) (λ n. judged (λ _. pass n) (λ e. e) gapColon)
@@ -74,18 +80,16 @@ module _ (r : Rules) (xs : List ℕ) (at : ℕ) where
     pub name-more : length xs ≤ e → short tt ≡ name r xs at
     name-more l = sym (name-parts ∙ rw (token-some, run-out tokenStep (some at) xs e l))
 
-    -- the colon is looked for where the blanks behind the name end
-    module _ (l : e < length xs) {q : ℕ} (g : Skipped (blanksIf (r .spaces-after-name)) xs e q) where
+    -- the colon is looked for where what is passed over behind the name ends
+    module _ (l : e < length xs) {q : ℕ} (g : Skipped (beforeColon r) xs e q) where
       to-colon : name r xs at ≡ ended (piece at e) (reads colonStep tt xs q)
       to-colon = name-parts ∙ rw (token-some, run-in tokenStep (some at) xs e l, k .stop l) (ap (ended (piece at e)) (reads-behind g colonStep tt))
 
       pub colon-more : length xs ≤ q → short tt ≡ name r xs at
       colon-more u = sym (to-colon ∙ rw (run-out colonStep tt xs q u))
 
-      pub colon-there : q < length xs → getD xs q 0 ≡ 58 → got (piece at e) (q + 1) ≡ name r xs at
-      colon-there u t = sym (to-colon ∙ rw (run-in colonStep tt xs q u, eq-eqb _ _ t))
+      pub colon-there : q < length xs → isColon (getD xs q 0) ≡ true → got (piece at e) (q + 1) ≡ name r xs at
+      colon-there u t = sym (to-colon ∙ rw (run-in colonStep tt xs q u, t))
 
-      pub colon-not : q < length xs → (getD xs q 0 ≡ 58 → ⊥) → bad (fault HeaderName q) ≡ name r xs at
-      colon-not u t = sym (to-colon ∙ rw (run-in colonStep tt xs q u, ne-eqb _ _ t))
-
-pub ruleset names = (name-none, name-not, name-more, colon-more, colon-there, colon-not, told-true, told-false)
+      pub colon-not : q < length xs → isColon (getD xs q 0) ≡ false → bad (fault HeaderName q) ≡ name r xs at
+      colon-not u t = sym (to-colon ∙ rw (run-in colonStep tt xs q u, t))

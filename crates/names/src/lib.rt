@@ -4,10 +4,30 @@ ghost use mathlib.Core.Bool.{true, false};
 ghost use Rattle.rules.specs.Settings.{changed};
 ghost use Rattle.parts.specs.Answers.{found};
 ghost use Rattle.names.specs.Name.{name as nameAt};
+ghost use Rattle.names.specs.Colon.{BehindName};
 use parts::Error;
 use parts::Fault;
 use parts::Found;
+use parts::Passed;
 use parts::Piece;
+
+// The colon behind a name's end: before it spaces and tabs where they are allowed, and nothing else.
+fn colon(s: &[u8], end: usize, allowed: bool) -> Passed
+    ensures { λ r. ⌜ BehindName allowed (now (s .entry)) end r ⌝ }
+{
+    let next = gaps::blanks(s, end, allowed);
+    if s.len() <= next {
+        return Passed::More;
+    }
+    if s[next] == 58 {
+        Passed::At(next + 1)
+    } else {
+        Passed::Bad(Fault {
+            error: Error::HeaderName,
+            position: next,
+        })
+    }
+}
 
 // One or more token bytes and a colon, with spaces and tabs between them where they are allowed.
 pub fn name(s: &[u8], at: usize, allowed: bool) -> Found
@@ -26,22 +46,16 @@ pub fn name(s: &[u8], at: usize, allowed: bool) -> Found
     if s.len() <= end {
         return Found::More;
     }
-    let colon = gaps::blanks(s, end, allowed);
-    if s.len() <= colon {
-        return Found::More;
-    }
-    if s[colon] == 58 {
-        Found::At(
+    let behind = colon(s, end, allowed);
+    match behind {
+        Passed::At(next) => Found::At(
             Piece {
                 offset: at,
                 length: end - at,
             },
-            colon + 1,
-        )
-    } else {
-        Found::Bad(Fault {
-            error: Error::HeaderName,
-            position: colon,
-        })
+            next,
+        ),
+        Passed::More => Found::More,
+        Passed::Bad(e) => Found::Bad(e),
     }
 }

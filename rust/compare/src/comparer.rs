@@ -151,9 +151,12 @@ fn is_complete_head(case: &Case, answer: &Numbers) -> bool {
 mod tests {
     use super::*;
     use crate::numbers::UNTOUCHED;
-    use crate::starts::places;
+    use crate::starts::{places, telling_bytes, Start};
+    use crate::strings::strings;
     use crate::theirs;
-    use answers::bits::{self, ASCII_TARGETS, DEFAULT};
+    use answers::bits::{self, ASCII_TARGETS, DEFAULT, SPACES_AFTER_HEADER_NAME};
+    use answers::functions::{number, COMPLETE};
+    use answers::HeadError;
 
     /// Every call, complete, incomplete and refused, with written slots, free ones and a remainder,
     /// and some under settings.
@@ -484,6 +487,92 @@ slots=[] and 11 untouched numbers"
                 });
                 assert!(noticed.count() > 1, "{call}: {setting}");
             }
+        }
+    }
+
+    /// What must be true of the byte before one that is wrong.
+    type Before = fn(&u8) -> bool;
+
+    /// A library with a fault like one that httparse had until 2022: with spaces allowed after names, and
+    /// nothing else set, it takes one wrong byte for a blank, where `before` is true of the byte before it.
+    fn a_byte_too_many(before: Before) -> impl Fn(&Case, &mut Numbers) {
+        move |case, numbers| {
+            httparse(case, numbers);
+            let position = numbers.out.numbers()[0] as usize;
+            let is_taken = case.settings == SPACES_AFTER_HEADER_NAME
+                && numbers.status == number(HeadError::HeaderName)
+                && case.input[..position].last().is_some_and(before);
+            if is_taken {
+                let mut input = case.input.to_vec();
+                input[position] = b' ';
+                let with_blank = Case {
+                    input: &input,
+                    ..*case
+                };
+                numbers.lend(case.room());
+                httparse(&with_blank, numbers);
+            }
+        }
+    }
+
+    fn is_blank(byte: &u8) -> bool {
+        b" \t".contains(byte)
+    }
+
+    /// The fault right behind a name, and behind its blanks: how many of the strings of up to two bytes at
+    /// the places of the setting give it away, and the shortest input on which it is seen.
+    const BYTES_TOO_MANY: [(Before, usize, &str); 2] = [
+        (u8::is_ascii_alphanumeric, 48, r#""HTTP/1.1 111\na/""#),
+        (is_blank, 84, r#""HTTP/1.1 111\na a""#),
+    ];
+
+    /// Before the colon of a good head, where the fault has the whole head accepted.
+    #[test]
+    fn a_byte_too_many_is_noticed() {
+        let places = places(Call::Response, SPACES_AFTER_HEADER_NAME);
+        for ((start, rest), (before, ..)) in places.iter().zip(BYTES_TOO_MANY) {
+            let input = [start, &b"\0"[..], rest].concat();
+            let off = Case {
+                input: &input,
+                ..case(Call::Response, b"")
+            };
+            let on = Case {
+                settings: SPACES_AFTER_HEADER_NAME,
+                ..off
+            };
+            let mut comparer = Comparer::of("a wrong library", a_byte_too_many(before));
+            assert!(comparer.differ(&on));
+            assert_eq!(comparer.ours.status, COMPLETE);
+            assert!(!comparer.differ(&off));
+            assert!(!Comparer::of_headreader().differ(&on));
+        }
+    }
+
+    /// Hands over all strings of up to two bytes at the places of spaces after names.
+    fn each_at_a_name(mut take: impl FnMut(&Case)) {
+        let on = with(SPACES_AFTER_HEADER_NAME, Call::Response, b"");
+        let places = places(on.call, on.settings).iter();
+        let starts: Vec<Start> = places.map(|&(start, _)| (start, 2)).collect();
+        let bytes = telling_bytes(on.call);
+        for strings in strings(&starts, bytes) {
+            strings.each(bytes, |input| take(&Case { input, ..on }));
+        }
+    }
+
+    /// Whichever string gives the fault away.
+    #[test]
+    fn a_byte_too_many_is_told_with_the_shortest_input() {
+        for (before, count, shortest) in BYTES_TOO_MANY {
+            let mut comparer = Comparer::of("a wrong library", a_byte_too_many(before));
+            let mut noticed = 0;
+            each_at_a_name(|case| {
+                if comparer.differ(case) {
+                    let told = comparer.report(case);
+                    assert!(told.contains(&format!("\t{shortest}\n")), "{told}");
+                    noticed += 1;
+                }
+            });
+            assert_eq!(noticed, count);
         }
     }
 

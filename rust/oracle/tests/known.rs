@@ -238,3 +238,26 @@ fn settings_for_headers() {
         ),
     ]);
 }
+
+/// With blanks allowed before a colon, another byte there is none of them, whatever follows it.
+#[test]
+fn a_byte_too_many() {
+    check(&[
+        (
+            "response\tspaces-after-header-name\t1\t\"HTTP/1.0 200 \\r\\nA\\x00\"",
+            "error HeaderName at 16 version=0 code=200 reason=+0 headers=[] untouched=1",
+        ),
+        (
+            "response\tspaces-after-header-name\t1\t\"HTTP/1.0 200 \\r\\nA \\x00\"",
+            "error HeaderName at 17 version=0 code=200 reason=+0 headers=[] untouched=1",
+        ),
+        (
+            "response\tspaces-after-header-name\t1\t\"HTTP/1.0 200 \\r\\nA\\x00:\\r\\n\\r\\n\"",
+            "error HeaderName at 16 version=0 code=200 reason=+0 headers=[] untouched=1",
+        ),
+        (
+            "response\tspaces-after-header-name\t1\t\"HTTP/1.0 200 \\r\\nA \\x00:\\r\\n\\r\\n\"",
+            "error HeaderName at 17 version=0 code=200 reason=+0 headers=[] untouched=1",
+        ),
+    ]);
+}

@@ -1,7 +1,7 @@
--- `names::name` meets its contract: token bytes, the blanks that are allowed and a colon are a name; the end of the input asks for more, and any other byte is the error.
+-- `names::name` meets its contract: token bytes, and behind them what `colon` finds, are a name; the end of the input asks for more, and any other byte is the error.
 -- Assumes nothing.
 use borrow.Author.Needs.{needs}
-use Rattle.names.specs.Name.{names}
+use Rattle.names.specs.Colon.{names}
 use Rattle.names.proofs.name.Statement.{statement}
 use Rattle.names.proofs.name.Tie as tie
 
@@ -17,9 +17,10 @@ name-spec =
     (λ c κs. search needs)
     (λ c. search (needs, names))
     (λ c κs. search needs)
+    (λ c. search needs)
     (λ c. search (needs, names))
     (λ c. search needs)
     (λ c. search needs)
-    (λ c. search needs)
+    (λ c. search (needs, names))
     (λ c. search (needs, names))
     (λ c. search (needs, names)))
