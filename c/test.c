@@ -35,17 +35,19 @@ struct expected {
 };
 
 /* The settings that are for responses alone, and for requests alone. */
-#define FOR_RESPONSES (HR_SPACES_AFTER_HEADER_NAME | HR_MULTILINE_HEADERS | HR_SPACES_IN_STATUS_LINE)
-#define FOR_REQUESTS (HR_SPACES_IN_REQUEST_LINE | HR_ASCII_TARGETS)
+#define FOR_RESPONSES \
+    (HR_SPACES_AFTER_HEADER_NAME | HR_MULTILINE_HEADERS | HR_SPACES_IN_STATUS_LINE | HR_IGNORE_INVALID_HEADERS_IN_RESPONSES)
+#define FOR_REQUESTS (HR_SPACES_IN_REQUEST_LINE | HR_IGNORE_INVALID_HEADERS_IN_REQUESTS | HR_ASCII_TARGETS)
 
-/* All of httparse's that there are, and with ours. */
-#define LENIENT (FOR_RESPONSES | HR_SPACES_IN_REQUEST_LINE | HR_SPACE_BEFORE_FIRST_HEADER_NAME)
+/* Those that pass over lines; all others of httparse's; and with ours. */
+#define IGNORING (HR_IGNORE_INVALID_HEADERS_IN_RESPONSES | HR_IGNORE_INVALID_HEADERS_IN_REQUESTS)
+#define LENIENT ((FOR_RESPONSES | HR_SPACES_IN_REQUEST_LINE | HR_SPACE_BEFORE_FIRST_HEADER_NAME) & ~IGNORING)
 #define ALL (LENIENT | HR_ASCII_TARGETS)
 
 /* All bits without a meaning. */
-#define OTHER_BITS (~ALL)
+#define OTHER_BITS (~(ALL | IGNORING))
 
-/* Every setting, with and without such bits. */
+/* Every setting but those that pass over lines, with and without such bits. */
 static const uint32_t SETTINGS[] = {
     0,
     OTHER_BITS,
@@ -66,7 +68,7 @@ static const uint32_t SETTINGS[] = {
 #define TEN "aaaaaaaaaa"
 #define SEVENTY TEN TEN TEN TEN TEN TEN TEN
 
-/* Nothing here is what a setting is about, so every setting leads to the same answers. */
+/* Nothing here is what a setting is about, so every setting leads to the same answers; those that pass over lines, where it is no line. */
 static const struct expected CASES[] = {
     {REQUEST, "GET / HTTP/1.1\r\nHost: a\r\nX:\r\n\r\nbody", HR_COMPLETE,
      {31, 2, REQUEST_LINE, 0, 3, 4, 1, 1}, {16, 4, 22, 1, 25, 1, 27, 0}},
@@ -157,6 +159,19 @@ static const struct {
     {HR_SPACE_BEFORE_FIRST_HEADER_NAME,
      {RESPONSE, "HTTP/1.1 200\n \t\r\nbody", HR_COMPLETE, {17, 0, STATUS_LINE, 1, 200, 0, 0, 0}, {0}},
      {RESPONSE, "HTTP/1.1 200\n \t\r\nbody", HR_HEADER_NAME, {13, 0, STATUS_LINE, 1, 200, 0, 0, 0}, {0}}},
+    {HR_IGNORE_INVALID_HEADERS_IN_REQUESTS,
+     {REQUEST, "GET / HTTP/1.1\n:\nA: b\n(\r\nC: \001d\n\nbody", HR_COMPLETE, {32, 1, REQUEST_LINE, 0, 3, 4, 1, 1}, {17, 1, 20, 1}},
+     {REQUEST, "GET / HTTP/1.1\n:\nA: b\n(\r\nC: \001d\n\nbody", HR_HEADER_NAME, {15, 0, REQUEST_LINE, 0, 3, 4, 1, 1}, {0}}},
+    {HR_IGNORE_INVALID_HEADERS_IN_REQUESTS,
+     {REQUEST, "GET / HTTP/1.1\nA: b\001\n\n", HR_COMPLETE, {22, 0, REQUEST_LINE, 0, 3, 4, 1, 1}, {0}},
+     {REQUEST, "GET / HTTP/1.1\nA: b\001\n\n", HR_HEADER_VALUE, {19, 0, REQUEST_LINE, 0, 3, 4, 1, 1}, {0}}},
+    {HR_IGNORE_INVALID_HEADERS_IN_RESPONSES,
+     {RESPONSE, "HTTP/1.1 200 OK\r\nA: b\r\n:\r\nC: d\r\n\r\n", HR_COMPLETE, {34, 2, STATUS_LINE, 1, 200, 13, 2, 0},
+      {17, 1, 20, 1, 26, 1, 29, 1}},
+     {RESPONSE, "HTTP/1.1 200 OK\r\nA: b\r\n:\r\nC: d\r\n\r\n", HR_HEADER_NAME, {23, 1, STATUS_LINE, 1, 200, 13, 2, 0}, {17, 1, 20, 1}}},
+    {HR_IGNORE_INVALID_HEADERS_IN_RESPONSES,
+     {RESPONSE, "HTTP/1.1 200\nA\001: b\n", HR_INCOMPLETE, {0, 0, STATUS_LINE, 1, 200, 0, 0, 0}, {0}},
+     {RESPONSE, "HTTP/1.1 200\nA\001: b\n", HR_HEADER_NAME, {14, 0, STATUS_LINE, 1, 200, 0, 0, 0}, {0}}},
 };
 
 #define LENIENCY_COUNT (sizeof LENIENCIES / sizeof LENIENCIES[0])
@@ -243,6 +258,16 @@ static const struct {
     {HR_SPACE_BEFORE_FIRST_HEADER_NAME, {REQUEST, "GET / HTTP/1.1\n A:\n ", HR_HEADER_NAME, 19, 1}},
     {HR_SPACE_BEFORE_FIRST_HEADER_NAME, {RESPONSE, "HTTP/1.1 200\n \rA", HR_NEW_LINE, 15, 0}},
     {HR_SPACE_BEFORE_FIRST_HEADER_NAME, {RESPONSE, "HTTP/1.1 200\n \tA:\n", HR_TOO_MANY_HEADERS, 15, 0}},
+    {IGNORING, {REQUEST, "GET / HTTP/1.1\n:\rA", HR_HEADER_NAME, 17, 0}},
+    {IGNORING, {REQUEST, "GET / HTTP/1.1\nA:\001\rB", HR_HEADER_VALUE, 19, 0}},
+    {IGNORING, {REQUEST, "GET / HTTP/1.1\nA: b\rC", HR_HEADER_VALUE, 20, 0}},
+    {IGNORING, {REQUEST, "GET / HTTP/1.1\n:\nA:\n", HR_TOO_MANY_HEADERS, 17, 0}},
+    {IGNORING, {RESPONSE, "HTTP/1.1 200\nA \r\r", HR_HEADER_NAME, 16, 0}},
+    {IGNORING, {RESPONSE, "HTTP/1.1 200\n:\n\rA", HR_NEW_LINE, 16, 0}},
+    {IGNORING, {RESPONSE, "HTTP/1.1 200\nA:\n:\nB:\n", HR_TOO_MANY_HEADERS, 18, 1}},
+    {IGNORING | HR_SPACE_BEFORE_FIRST_HEADER_NAME, {RESPONSE, "HTTP/1.1 200\n:\n \tA:\n", HR_TOO_MANY_HEADERS, 17, 0}},
+    {IGNORING | HR_MULTILINE_HEADERS, {RESPONSE, "HTTP/1.1 200\nA:\n \001\rB", HR_HEADER_VALUE, 19, 0}},
+    {IGNORING | HR_MULTILINE_HEADERS, {RESPONSE, "HTTP/1.1 200\nA:\n \001\n b\rC", HR_HEADER_NAME, 22, 0}},
 };
 
 #define LENIENT_ERROR_COUNT (sizeof LENIENT_ERRORS / sizeof LENIENT_ERRORS[0])
@@ -357,6 +382,8 @@ static bool in_visible_target(unsigned byte) { return ' ' <= byte && byte <= 0x7
 
 static bool in_target(unsigned byte) { return in_visible_target(byte) || byte >= 0x80; }
 
+static bool in_ignored(unsigned byte) { return byte != 0; }
+
 static bool in_text(unsigned byte) { return in_target(byte) || byte == '\t' || byte == '\r' || byte == '\n'; }
 
 /* What a row stands behind, the error of a byte that may neither stand in it nor end it, and those that may. */
@@ -370,6 +397,9 @@ static const struct {
     {{REQUEST, "A ", HR_TOKEN, {0}, {0}}, HR_ASCII_TARGETS, in_visible_target},
     {{HEADERS, "A:", HR_HEADER_VALUE, {0}, {0}}, 0, in_text},
     {{RESPONSE, "HTTP/1.1 200 ", HR_STATUS, {0}, {0}}, 0, in_text},
+    {{REQUEST, "GET / HTTP/1.1\n:", HR_HEADER_NAME, {0}, {0}}, IGNORING, in_ignored},
+    {{REQUEST, "GET / HTTP/1.1\nA", HR_HEADER_NAME, {0}, {0}}, IGNORING, in_ignored},
+    {{RESPONSE, "HTTP/1.1 200\nA: ", HR_HEADER_VALUE, {0}, {0}}, IGNORING, in_ignored},
 };
 
 #define ROW_COUNT (sizeof ROWS / sizeof ROWS[0])
@@ -496,11 +526,18 @@ static void test_with_settings(const struct expected *expected, uint32_t setting
     test_before_a_wall(expected, settings, wall);
 }
 
-/* A setting alone, with all others, and all others without it. */
+/* Lines are passed over only where they are an error. */
+static void test_case(const struct expected *expected, uint32_t settings, uint8_t *wall) {
+    test_with_settings(expected, settings, wall);
+    if (expected->status != HR_HEADER_NAME && expected->status != HR_HEADER_VALUE)
+        test_with_settings(expected, settings | IGNORING, wall);
+}
+
+/* A setting alone, with all but those that pass over lines, and these without it. */
 static void test_leniency(size_t i, uint8_t *wall) {
     uint32_t setting = LENIENCIES[i].setting;
     test_with_settings(&LENIENCIES[i].on, setting, wall);
-    test_with_settings(&LENIENCIES[i].on, ALL | OTHER_BITS, wall);
+    test_with_settings(&LENIENCIES[i].on, ALL | OTHER_BITS | setting, wall);
     test_with_settings(&LENIENCIES[i].off, 0, wall);
     test_with_settings(&LENIENCIES[i].off, (ALL | OTHER_BITS) & ~setting, wall);
 }
@@ -511,7 +548,7 @@ int main(void) {
     if (pages == MAP_FAILED || mprotect(pages + page, page, PROT_NONE) != 0)
         abort();
     for (size_t i = 0; i < CASE_COUNT * SETTING_COUNT; i++)
-        test_with_settings(&CASES[i / SETTING_COUNT], SETTINGS[i % SETTING_COUNT], pages + page);
+        test_case(&CASES[i / SETTING_COUNT], SETTINGS[i % SETTING_COUNT], pages + page);
     for (size_t i = 0; i < BEYOND_ASCII_COUNT; i++) {
         test_with_settings(&BEYOND_ASCII[i], 0, pages + page);
         test_with_settings(&BEYOND_ASCII[i], OTHER_BITS, pages + page);

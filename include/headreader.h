@@ -74,6 +74,18 @@ extern "C" {
 #define HR_SPACE_BEFORE_FIRST_HEADER_NAME 16u
 
 /*
+ * Responses: where a byte of a line is HR_HEADER_NAME or HR_HEADER_VALUE without the setting, the line is passed over from that byte up to
+ * its end, and gives no header; the lines before it and behind it are read as ever. It is that error after all at a NUL on the way, and at a
+ * byte behind a CR there that is no LF. Behind a value, too, a CR without LF is the error that it is without the setting. With
+ * HR_MULTILINE_HEADERS a wrong byte in a later line of a value loses the whole header, and a line behind it that begins with a space or a
+ * tab is a line of its own.
+ */
+#define HR_IGNORE_INVALID_HEADERS_IN_RESPONSES 32u
+
+/* Requests: the same. */
+#define HR_IGNORE_INVALID_HEADERS_IN_REQUESTS 64u
+
+/*
  * Requests: a target has the bytes 0x21 to 0x7E only, and any other in it is HR_TOKEN at once, whatever follows; without the setting bytes
  * from 0x80 on may stand there too, and a target that is no UTF-8 is refused at the space behind it. httparse does not have it.
  */
@@ -82,7 +94,7 @@ extern "C" {
 /*
  * A request. out: 0 the position behind the head, or of an error; 1 how many headers were given; 2 what is known; 3, 4 the method's
  * offset and length; 5, 6 the target's; 7 the minor version. What is not known is 0. slots_len counts numbers.
- * settings is 0 or some of the bits above; httparse's settings to ignore invalid headers have none yet.
+ * settings is 0 or some of the bits above.
  */
 uint32_t hr_request(const uint8_t *buf, size_t len, uint64_t *slots, size_t slots_len, uint64_t out[8], uint32_t settings);
 

@@ -29,7 +29,8 @@ use Rattle.words.specs.Word.{wordStep, word}
 use Rattle.words.specs.Word as words
 use Rattle.words.specs.Target.{Utf8, none as no-byte, some as inside, feed, targetByte, targetStep, target}
 use Rattle.requestline.specs.RequestLine as requests
-use Rattle.heads.specs.Head.{section, head, head-parts, headed, over}
+use Rattle.blocks.specs.Block.{block}
+use Rattle.heads.specs.Head.{head, head-parts, headed, over}
 use Rattle.heads.specs.Calls.{request}
 use Rattle.leaves.specs.Rows.{In}
 use Rattle.leaves.specs.Gap.{GapStops, row-skipped}
@@ -87,5 +88,5 @@ module _ {r : Rules} (ascii : r .any-target ≡ false) (n : ℕ) {e t : List ℕ
       ∙ ap (λ a. chain requests.unread (requests.withMethod requests.unread) a (requests.fromTarget r z)) named
       ∙ sym (requests.target-gapped r z line gap refl) ∙ ap (λ a. chain line (requests.withTarget line) a (requests.fromVersion r z)) wrong in
       ap (λ y. head r n (requests.requestLineStep r) requests.lineKnown (first start) (e ++ y)) same
-      ∙ head-parts r n (requests.requestLineStep r) requests.lineKnown (first start) z ∙ ap (λ a. headed a (λ k q. over k (section r n z q))) read
+      ∙ head-parts r n (requests.requestLineStep r) requests.lineKnown (first start) z ∙ ap (λ a. headed a (λ k q. over k (block r n [] z q))) read
       ∙ ap (λ y. bad (fault Token y, (line, []))) place

@@ -4,12 +4,11 @@ use Prim.Native.Nat.{ℕ, _+_, _-_, _/_, _≤_}
 use native.Mathlib.Omega.{arith}
 use mathlib.Core.Path.{_≡_, refl, sym, ap, subst, _∙_}
 use mathlib.Core.List.{List, [], _++_}
-use mathlib.Core.Bool.{false}
+use mathlib.Core.Bool.{true, false}
 use lib.ListN.{length, take}
 use Rattle.reader.specs.Tests.{never}
 use Rattle.reader.specs.Seq.{first}
 use Rattle.reader.specs.Answer.{got, short, bad, answered, answered-bad, bad-stays, lapwise}
-use Rattle.reader.specs.Branch.{fresh}
 use Rattle.rules.specs.Rules.{Rules, default}
 use Rattle.rules.specs.declared.Settings.{Settings}
 use Rattle.rules.specs.Settings.{requestRules, responseRules}
@@ -93,7 +92,7 @@ module _ (n : ℕ) where
         l = tt;
         whole = P .whole;
         place = omega (arith, P .place);
-        head = subst (λ y. header-block default (P .w) (fieldsOf z y)) (sym (A .whole)) (A .block);
+        head = subst (λ y. header-block default true (P .w) (fieldsOf z y)) (sym (A .whole)) (A .block);
         says = tt;
         fits = A .fits (omega arith);
       }
@@ -102,16 +101,16 @@ module _ (n : ℕ) where
   headers-exactly = record {
     sound = found-block;
     complete = λ w rest l fs h f.
-        let F = block-read (w ++ rest) default n (at-start w rest) h [] (omega (arith, f)) in
+        let F = block-read (w ++ rest) default n (at-start w rest) h [] refl (omega (arith, f)) in
         let q : 0 + length w ≡ length w = omega arith in
         record { k = tt; hs = F .new; says = tt; holds = F .holds; answers = ap alone (F .answers) ∙ ap (got (tt, F .new)) q };
     too-many = λ w rest l fs h f.
-        let F = block-over (w ++ rest) default n (at-start w rest) h [] (omega arith) (omega (arith, f)) in
+        let F = block-over (w ++ rest) default n (at-start w rest) h [] refl (omega arith) (omega (arith, f)) in
         let j : n - 0 ≡ n = omega arith in
         (F .position, record { k = tt; hs = F .new; says = tt; holds = F .holds ∙ ap (λ y. take y fs) j; answers = ap alone (F .answers) });
     few = λ z. subst (λ y. length y ≤ n) (sym (given-over tt (block default n [] z 0))) (few-fields z default n [] 0 (omega arith));
     full = λ z x e. let u = answered-bad (lapwise (λ hs _. hs)) _ (over-bad {K = Unit {0}} tt (block default n [] z 0) x e) in block-full default n z (x .0, x .1 .1) (u .0) (u .1) .full;
-    stays = λ s u x e. ap alone (bad-stays (lapwise (λ hs _. hs)) (blockStep default n) s u ([], fresh) 0 (over-bad {K = Unit {0}} tt (block default n [] s 0) x e));
+    stays = λ s u x e. ap alone (bad-stays (lapwise (λ hs _. hs)) (blockStep default n) s u ([], first tt) 0 (over-bad {K = Unit {0}} tt (block default n [] s 0) x e));
   }
 
 headers-lie : (n : ℕ) → Lies default lies-nowhere (headersOf n)

@@ -7,7 +7,7 @@ use mathlib.Core.List.{List, [], _∷_, _++_}
 use mathlib.Core.Bool.{Bool, true, false}
 use lib.ListN.{length, drop, getD}
 use Rattle.reader.specs.Answer.{Answer, got, short, bad, and}
-use Rattle.reader.specs.Chain.{ended}
+use Rattle.reader.specs.Chain.{ended, reads}
 use Rattle.reader.specs.Tests.{never}
 use Rattle.rules.specs.Rules.{Rules}
 use Rattle.parts.specs.declared.Error.the-variants.{NewLine}
@@ -17,8 +17,9 @@ use Rattle.parts.specs.LineEnd.{lineEnd}
 use Rattle.names.specs.Name.{name}
 use Rattle.names.specs.Colon.{NameToColon, colon-at-once, name-to-colon}
 use Rattle.folds.specs.Folded.{valueLines}
+use Rattle.ignored.specs.Rest.{restStep, seen}
 use Rattle.fields.specs.declared.Header.{Header}
-use Rattle.fields.specs.Line.{header, named, end, ends, line, onward, line-end-parts, line-field-parts}
+use Rattle.fields.specs.Line.{Kind, header, named, end, ignored, ends, line, onward, field, field-parts, line-end-parts, tried-got, tried-short, tried-off, tried-on}
 use Rattle.blocks.specs.Block.{block, given}
 use Rattle.blocks.specs.Slots.{flat, filled}
 use Rattle.agreement.specs.Fields.{Each, each-more, header-same, line-within, given-all}
@@ -27,11 +28,16 @@ use Rattle.agreement.specs.Fields.{Each, each-more, header-same, line-wi
 abbrev pub HeaderToColon : List ℕ → Rules → Header → Type 0
 HeaderToColon z r h = NameToColon (r .spaces-after-name) z (h .name)
 
--- a line that ends a block gives no header
+-- a line that ends a block gives no header, nor does one that is passed over
 never-ended : {h : Header} {q : ℕ} (a : Answer (Unit {0}) (Unit {0}) Fault) → ended end a ≡ got (header h) q → ⊥
 never-ended (got u q) e = never cc
 never-ended (short u) e = never cc
 never-ended (bad x) e = never cc
+
+never-ignored : {h : Header} {q : ℕ} (a : Answer (Unit {0}) (Unit {0}) Fault) → ended ignored a ≡ got (header h) q → ⊥
+never-ignored (got u q) e = never cc
+never-ignored (short u) e = never cc
+never-ignored (bad x) e = never cc
 
 -- the name of a header is the one that was read
 kept-name : {h : Header} {q : ℕ} (n : Piece) (a : Answer (Unit {0}) Piece Fault) → and a (λ v i. got (named n v) i) ≡ got (header h) q → n ≡ h .name
@@ -45,6 +51,16 @@ module _ (z : List ℕ) (r : Rules) (n : ℕ) where
   name-read h p q (short u) g e = never cc
   name-read h p q (bad x) g e = never cc
 
+  -- a header's line is a field line that is read to its end
+  field-read : (p q : ℕ) (h : Header) → p < length z → ends r (getD z p 0) ≡ false → line r z p ≡ got (header h) q → field r z p ≡ got (header h) q
+  field-read p q h i c e = by (field r z p) refl (r .ignore-invalid-headers) refl
+    where
+      by : (a : Answer (Unit {0}) Kind Fault) → field r z p ≡ a → (o : Bool) → r .ignore-invalid-headers ≡ o → a ≡ got (header h) q
+      by (got k j) u o t = sym (tried-got r z p i c u) ∙ e
+      by (short v) u o t = let w = sym (tried-short r z p i c u) ∙ e in never cc
+      by (bad x) u false t = let w = sym (tried-off r z p i c t u) ∙ e in never cc
+      by (bad x) u true t = absurd (never-ignored (reads (restStep r (x .error)) (seen z p (x .position)) z (x .position)) (sym (tried-on r z p i c t u) ∙ e))
+
   header-to-colon : (p q : ℕ) (h : Header) → line r z p ≡ got (header h) q → HeaderToColon z r h
   header-to-colon p q h e = by (ends r (getD z p 0)) refl
     where
@@ -53,7 +69,7 @@ module _ (z : List ℕ) (r : Rules) (n : ℕ) where
 
       by : (t : Bool) → ends r (getD z p 0) ≡ t → HeaderToColon z r h
       by true c = absurd (never-ended (lineEnd r NewLine z p) (sym (line-end-parts r z p inside c) ∙ e))
-      by false c = name-read h p q (name r z p) refl (sym (line-field-parts r z p inside c) ∙ e)
+      by false c = name-read h p q (name r z p) refl (sym (field-parts r z p) ∙ field-read p q h inside c e)
 
   pub fields-to-colon : (hs : List Header) (p : ℕ) → Each (HeaderToColon z r) hs → Each (HeaderToColon z r) (given (block r n hs z p))
   fields-to-colon = given-all z r n (Each (HeaderToColon z r)) (λ hs h p q e l f. each-more (HeaderToColon z r) hs h f (header-to-colon p q h e))

@@ -6,24 +6,22 @@ use native.Mathlib.Decide.{decLt}
 use mathlib.Core.Path.{_≡_, refl, sym, ap, _∙_}
 use mathlib.Core.Logic.{_⊎_, inl, inr}
 use mathlib.Core.List.{List, [], _++_, append-assoc}
-use mathlib.Core.Bool.{Bool, true, false, _&&_, and-false}
+use mathlib.Core.Bool.{Bool, true, false, _&&_}
 use lib.Dec.{eqb, ltb}
-use lib.ListN.{length, getD, take, drop, length-append, take-append-drop}
-use lib.Seq.{length-take-le, take-all, take-at, take-take, getD-take}
+use lib.ListN.{length, take, drop, length-append, take-append-drop}
+use lib.Seq.{length-take-le, take-all, take-at, take-take}
 use Rattle.reader.specs.Machine.{gave, Step, runAt}
 use Rattle.reader.specs.Judged.{pass, judged}
 use Rattle.reader.specs.Seq.{first}
-use Rattle.reader.specs.Branch.{fresh}
 use Rattle.reader.specs.Answer.{Answer, got, short, bad, answer, answered, answered-bad, lapwise}
 use Rattle.reader.specs.Chain.{nothing, part}
 use Rattle.reader.specs.Refusals.{Refusal, Refuses, refused-is}
-use Rattle.reader.specs.Skip.{Skipped}
 use Rattle.reader.specs.Decided.{refused-in, waits-before, decided-there, Taken, Takes, same-start, takes-judged, takes-seq}
 use Rattle.reader.specs.Tests.{split, never}
 use Rattle.octets.specs.Class.{isBlank, isHexDigit, isToken}
 use Rattle.rules.specs.Rules.{Rules, default}
 use Rattle.lengths.specs.Lengths.{ends-long}
-use Rattle.gaps.specs.Gap.{gapStep, gapEnd, end-skipped}
+use Rattle.gaps.specs.Gap.{gapStep}
 use Rattle.parts.specs.declared.Error.{Error}
 use Rattle.parts.specs.declared.Error.the-variants.{NewLine, Status, Token, TooManyHeaders, Version}
 use Rattle.parts.specs.declared.Fault.{Fault}
@@ -40,7 +38,7 @@ use Rattle.blocks.specs.Block.{Blocks, blockStep, block}
 use Rattle.requestline.specs.RequestLine as requests
 use Rattle.statusline.specs.StatusLine as statuses
 use Rattle.startline.specs.Answers.{tell}
-use Rattle.heads.specs.Head.{Heads, blanksBefore, section, section-block, Known, headStep, headKnown, over, headed, head-parts, given, Told}
+use Rattle.heads.specs.Head.{Heads, Known, headStep, headKnown, over, headed, head-parts, given, Told}
 use Rattle.heads.specs.Head as heads
 use Rattle.chunks.specs.Chunk.{digits, blanks, extension, cr, behindStep, chunkStep, chunk}
 use Rattle.agreement.specs.Full.{Ordinary, which, Full, LocatedLine, head-full, block-full}
@@ -101,27 +99,6 @@ module _ {K : Type 0} {r : Rules} {n : ℕ} {read : List ℕ → Heads K} {z : L
     too-many = many;
   }
 
--- the blanks before a block are there in any input that begins as z does up to a position c behind them, and has no blank at c
-gap-there : (r : Rules) (z y : List ℕ) (c : ℕ) {q e : ℕ} → Skipped (blanksBefore r) z q e → e ≤ c → c ≤ length z → take c y ≡ take c z → (c < length y → isBlank (getD y c 0) ≡ false) → Skipped (blanksBefore r) y q e
-gap-there r z y c {q} {e} g l i same stops = record {
-  passed = record { from = g .passed .from; inside = λ _. omega (arith, size, l); past = λ p. omega (arith, size, l, p, g .passed .from); all = λ k lo hi. ap (blanksBefore r) (byte k (omega (arith, l, hi))) ∙ g .passed .all k lo hi };
-  stop = λ h. by h (decLt e c);
-}
-  where
-    byte : (k : ℕ) → k < c → getD y k 0 ≡ getD z k 0
-    byte k h = sym (getD-take c y k 0 h) ∙ ap (λ w. getD w k 0) same ∙ getD-take c z k 0 h
-
-    size : c ≤ length y
-    size = at-least (decLt (length y) c)
-      where
-        at-least : Dec (length y < c) → c ≤ length y
-        at-least (no h) = omega arith
-        at-least (yes h) = absurd (omega (arith, h, ap length same, length-take-le c z i, ap length (take-all c y (omega arith))))
-
-    by : e < length y → Dec (e < c) → blanksBefore r (getD y e 0) ≡ false
-    by h (yes k) = ap (blanksBefore r) (byte e k) ∙ g .stop (omega (arith, k, i))
-    by h (no k) = let e-is : e ≡ c = omega arith in let b : isBlank (getD y e 0) ≡ false = ap (λ w. isBlank (getD y w 0)) e-is ∙ stops (omega (arith, e-is, h)) in rw b (and-false (r .space-before-first-name))
-
 module _ (r : Rules) (n : ℕ) {K S : Type 0} (m : Step S K (Fault × K)) (known : S → K) (s : S) (M : Refuses LocatedLine m) (T : Takes m) where
   abbrev read : List ℕ → Heads K
   read z = heads.head r n m known s z
@@ -136,14 +113,11 @@ module _ (r : Rules) (n : ℕ) {K S : Type 0} (m : Step S K (Fault × K)) (known
   head-too-many : (z : List ℕ) (x : Fault × Known K) → read z ≡ bad x → x .0 .error ≡ TooManyHeaders → OneTooMany r n read z (x .0 .position)
   head-too-many z x e o = by (answer known (runAt m s z 0)) refl (sym (head-parts r n m known s z) ∙ e)
     where
-      by : (a : Answer K K (Fault × K)) → answer known (runAt m s z 0) ≡ a → headed a (λ k q. over k (section r n z q)) ≡ bad x → OneTooMany r n read z (x .0 .position)
+      by : (a : Answer K K (Fault × K)) → answer known (runAt m s z 0) ≡ a → headed a (λ k q. over k (block r n [] z q)) ≡ bad x → OneTooMany r n read z (x .0 .position)
       by (got k q) h b =
           let u = answered-bad (headKnown r n m known s) _ e in
-          let g : Skipped (blanksBefore r) z q (gapEnd (blanksBefore r) z q) = end-skipped (blanksBefore r) z q in
-          one-too-many z r n (x .0) (x .1 .1) o read k (gapEnd (blanksBefore r) z q) (sym (section-block r n g) ∙ over-bad k (section r n z q) x b) (head-full r n m known s M z x (u .0) (u .1) .full o)
-          (λ l i y same stops.
-          head-parts r n m known s y ∙ ap (λ a. headed a (λ k q. over k (section r n y q))) (start-there z y (x .0 .position) q k h (omega (arith, l, g .passed .from)) i same)
-          ∙ ap (over k) (section-block r n (gap-there r z y (x .0 .position) g l i same stops)))
+          one-too-many z r n (x .0) (x .1 .1) o read k q (over-bad k (block r n [] z q) x b) (head-full r n m known s M z x (u .0) (u .1) .full o)
+          (λ l i y same. head-parts r n m known s y ∙ ap (λ a. headed a (λ k q. over k (block r n [] y q))) (start-there z y (x .0 .position) q k h l i same))
       by (short k) h b = never cc
       by (bad y) h b =
           let v : _≡_ {A = Fault × Known K} (y .0, (y .1, [])) x = cc in
@@ -171,10 +145,10 @@ module _ (r : Rules) (n : ℕ) (z : List ℕ) (x : Fault × Known (Unit {0})) wh
       let b : block r n [] z 0 ≡ bad (x .0, x .1 .1) = over-bad {K = Unit {0}} tt (block r n [] z 0) x e in
       let u = answered-bad (lapwise (λ hs _. hs)) _ b in
       let F = block-full r n z (x .0, x .1 .1) (u .0) (u .1) in
-      let many : x .0 .error ≡ TooManyHeaders → OneTooMany r n blockOf z (x .0 .position) = λ o. one-too-many z r n (x .0) (x .1 .1) o blockOf tt 0 b (F .full o) (λ l i y same stops. refl) in
-      located-at e F (refused-in (lapwise (λ hs _. hs)) (blockStep r n) ([], fresh) z (u .1))
-      (λ k l. let w = waits-before (lapwise (λ hs _. hs)) (blockStep r n) ([], fresh) z (u .1) k l in ((tt, w .0), ap (over tt) (w .1)))
-      (λ w. ap (over tt) (decided-there (lapwise (λ hs _. hs)) (blockStep r n) ([], fresh) z (u .1) w) ∙ ap (over tt) (sym b) ∙ e) many
+      let many : x .0 .error ≡ TooManyHeaders → OneTooMany r n blockOf z (x .0 .position) = λ o. one-too-many z r n (x .0) (x .1 .1) o blockOf tt 0 b (F .full o) (λ l i y same. refl) in
+      located-at e F (refused-in (lapwise (λ hs _. hs)) (blockStep r n) ([], first tt) z (u .1))
+      (λ k l. let w = waits-before (lapwise (λ hs _. hs)) (blockStep r n) ([], first tt) z (u .1) k l in ((tt, w .0), ap (over tt) (w .1)))
+      (λ w. ap (over tt) (decided-there (lapwise (λ hs _. hs)) (blockStep r n) ([], first tt) z (u .1) w) ∙ ap (over tt) (sym b) ∙ e) many
 
 -- start lines take their last byte
 end-takes : (r : Rules) (x : Error) → Takes (lineEndStep r x)

@@ -3,38 +3,30 @@
 use Prim.Native.Nat.{ℕ, _+_, _-_, _≤_, _<_}
 use native.Mathlib.Omega.{arith}
 use mathlib.Core.Path.{_≡_, refl, sym, ap, subst, _∙_}
-use mathlib.Core.List.{List, [], _∷_, _++_, append-assoc}
-use mathlib.Core.Bool.{_&&_, and-false}
+use mathlib.Core.List.{List, [], _++_}
 use lib.ListN.{length, take, length-append}
-use Rattle.reader.specs.Machine.{gave, Step, run, runAt}
-use Rattle.reader.specs.Branch.{fresh}
+use Rattle.reader.specs.Machine.{Step, run, runAt}
 use Rattle.reader.specs.Seq.{first}
-use Rattle.reader.specs.Answer.{Answer, got, short, bad, answer, answered, answered-bad, answer-seq, bad-stays, lapwise}
+use Rattle.reader.specs.Answer.{Answer, got, short, bad, answer, answered, answered-bad, bad-stays}
 use Rattle.reader.specs.Refusals.{Refuses}
 use Rattle.reader.specs.Known.{knownOf}
 use Rattle.exact.specs.Exact.{Relation, Exact}
 use Rattle.rules.specs.Rules.{Rules}
 use Rattle.grammar.specs.Fields.{Field}
-use Rattle.octets.specs.Grammar.{blank}
-use Rattle.gaps.specs.Gap.{gapStep, gapEnd, end-skipped}
-use Rattle.grammar.specs.Rows.{Many, none, more, Some, some}
-use Rattle.grammar.specs.Message.{empty-lines, line-end, header-block, head}
+use Rattle.grammar.specs.Message.{empty-lines, line-end, head}
 use Rattle.grammar.specs.Message as grammar
 use Rattle.parts.specs.declared.Error.the-variants.{TooManyHeaders}
 use Rattle.parts.specs.declared.Fault.{Fault}
 use Rattle.parts.specs.Answers.{fault}
 use Rattle.fields.specs.declared.Header.{Header}
-use Rattle.blocks.specs.Block.{Blocks, blockStep, block}
+use Rattle.blocks.specs.Block.{Blocks, block}
 use Rattle.blocks.specs.Block as blocks
 use Rattle.leaves.specs.Rows.{In}
-use Rattle.leaves.specs.Gap.{GapStops, exact-gap}
-use Rattle.heads.specs.Head.{Heads, blanksBefore, section, section-block, Known, headStep, headKnown, over, headed, head-parts, given}
+use Rattle.heads.specs.Head.{Heads, Known, headStep, headKnown, over, headed, head-parts, given}
 use Rattle.heads.specs.Head as heads
 use Rattle.agreement.specs.Head.{exact-head}
 use Rattle.agreement.specs.Places.{At, at-start, at-as, at-first, at-second, from-at}
-use Rattle.agreement.specs.Names.{allowed-blanks, some-allowed, in-allowed}
-use Rattle.agreement.specs.Folded.{NoBlank}
-use Rattle.agreement.specs.Fields.{block-begins, HeaderIs, fields-are, fieldsOf, block-derived, block-read, block-over, few-fields, Each, fields-in}
+use Rattle.agreement.specs.Fields.{HeaderIs, fields-are, fieldsOf, block-derived, block-read, block-over, few-fields, Each, fields-in}
 use Rattle.agreement.specs.Colons.{HeaderToColon, fields-to-colon}
 use Rattle.agreement.specs.FieldLine.{HeaderIn}
 use Rattle.agreement.specs.Full.{LocatedLine, head-full}
@@ -86,8 +78,8 @@ line-over k (short hs) = refl
 line-over k (bad x) = refl
 
 module _ (r : Rules) (n : ℕ) {K S : Type 0} (m : Step S K (Fault × K)) (known : S → K) (s : S) where
-  line-is : (z : List ℕ) (a : Answer K K (Fault × K)) → knownOf (headed a (λ k q. over k (section r n z q))) .0 ≡ knownOf a
-  line-is z (got k q) = line-over k (section r n z q)
+  line-is : (z : List ℕ) (a : Answer K K (Fault × K)) → knownOf (headed a (λ k q. over k (block r n [] z q))) .0 ≡ knownOf a
+  line-is z (got k q) = line-over k (block r n [] z q)
   line-is z (short k) = refl
   line-is z (bad x) = refl
 
@@ -95,8 +87,8 @@ module _ (r : Rules) (n : ℕ) {K S : Type 0} (m : Step S K (Fault × K)) (known
   head-line z = ap (λ (y : Heads K). knownOf y .0) (head-parts r n m known s z) ∙ line-is z (answer known (runAt m s z 0))
 
   -- what holds of the headers of every block holds of those of a head
-  given-is : (P : List Header → Type 0) → P [] → (z : List ℕ) → ((q : ℕ) → P (blocks.given (block r n [] z q))) → (a : Answer K K (Fault × K)) → P (given (headed a (λ k q. over k (section r n z q))))
-  given-is P h z g (got k q) = subst P (ap blocks.given (sym (section-block r n (end-skipped (blanksBefore r) z q))) ∙ sym (given-over k (section r n z q))) (g (gapEnd (blanksBefore r) z q))
+  given-is : (P : List Header → Type 0) → P [] → (z : List ℕ) → ((q : ℕ) → P (blocks.given (block r n [] z q))) → (a : Answer K K (Fault × K)) → P (given (headed a (λ k q. over k (block r n [] z q))))
+  given-is P h z g (got k q) = subst P (sym (given-over k (block r n [] z q))) (g q)
   given-is P h z g (short k) = h
   given-is P h z g (bad x) = h
 
@@ -110,28 +102,6 @@ module _ (r : Rules) (n : ℕ) {K S : Type 0} (m : Step S K (Fault × K)) (known
     are = λ z. head-given (Each (HeaderIs z r)) tt z (λ q. fields-are z r n [] q tt);
     colons = λ z. head-given (Each (HeaderToColon z r)) tt z (λ q. fields-to-colon z r n [] q tt);
   }
-
--- the blanks before a block, in the grammar's words
-before-derived : (r : Rules) {w : List ℕ} → Many (In (blanksBefore r)) w → grammar.before-first-name r w
-before-derived r none = grammar.before-first-name.nothing
-before-derived r (more {b = b} h k) = grammar.before-first-name.blanks (some-allowed (r .space-before-first-name) b h) (all (allowed-blanks (r .space-before-first-name) (more h k)))
-  where
-    all : {c : ℕ} {v : List ℕ} → Many blank (c ∷ v) → Some blank (c ∷ v)
-    all (more x l) = some x l
-
-before-all : (r : Rules) {w : List ℕ} → grammar.before-first-name r w → Many (In (blanksBefore r)) w
-before-all r grammar.before-first-name.nothing = none
-before-all r (grammar.before-first-name.blanks h k) = in-allowed (r .space-before-first-name) h k
-
--- they end where the block begins
-before-read : (z : List ℕ) (r : Rules) (n : ℕ) {q : ℕ} {g b : List ℕ} (rest : List ℕ) {fs : List Field} → At z q g (b ++ rest) → grammar.before-first-name r g → header-block r b fs → section r n z q ≡ block r n [] z (q + length g)
-before-read z r n {q} {g} {b} rest h before k =
-    let N = block-begins k rest in
-    let ends : runAt (gapStep {F = Fault × List Header} (blanksBefore r)) tt z q ≡ gave tt (q + length g) = ap (run (gapStep (blanksBefore r)) tt q) (from-at h) ∙ exact-gap (blanksBefore r) .complete q g (b ++ rest) tt (record { all = before-all r before; stops = blanks-end N }) in
-    answer-seq (λ _. []) (λ _. lapwise (λ hs _. hs)) (gapStep (blanksBefore r)) (λ _. ([], fresh)) (λ _. blockStep r n) tt z q ∙ rw ends
-  where
-    blanks-end : {y : List ℕ} → NoBlank y → GapStops (blanksBefore r) y
-    blanks-end N = record { b = N .b; ys = N .ys; whole = N .whole; stops = rw (N .solid) (and-false (r .space-before-first-name)) }
 
 module _ (r : Rules) (n : ℕ) {L K S : Type 0} (m : Step S K (Fault × K)) (known : S → K) (s : S) {G : Relation K} (M : Exact m s G) (ordinary : Refuses LocatedLine m)
     (start-line : List ℕ → L → Type 0) (Says : List ℕ → K → L → Type 0)
@@ -147,62 +117,59 @@ module _ (r : Rules) (n : ℕ) {L K S : Type 0} (m : Step S K (Fault × K)) (kno
       let h : At z 0 (P .w) (P .rest) = record { before = []; whole = P .whole; place = refl } in
       let h′ = at-as (B .whole) h in
       let D = derived z (B .w₁) (B .w₂ ++ P .rest) (B .left .a) (at-first (B .w₁) (B .w₂) h′) (B .left .holds) in
-      let S = B .right .holds in
-      let A = block-derived (at-second (S .w₁) (S .w₂) (at-as (S .whole) (at-second (B .w₁) (B .w₂) h′))) (S .right) in
-      let whole : P .w ≡ D .e ++ D .l ++ D .c ++ S .w₁ ++ S .w₂ = B .whole ∙ ap (λ y. y ++ B .w₂) (D .whole) ∙ ap (λ y. (D .e ++ D .l ++ D .c) ++ y) (S .whole) ∙ sym (append-assoc (D .e ++ D .l ++ D .c) (S .w₁) (S .w₂)) in
+      let A = block-derived (at-second (B .w₁) (B .w₂) h′) (B .right .holds) in
+      let whole : P .w ≡ D .e ++ D .l ++ D .c ++ B .w₂ = B .whole ∙ ap (λ y. y ++ B .w₂) (D .whole) in
       let same-k : B .a ≡ B .left .a = passed-is (B .left .passes) in
       let same : _≡_ {A = Known K} (k, hs) (B .a, B .right .a) = passed-is (B .right .passes) in
       let k-is : k ≡ B .left .a = ap (λ y. y .0) same ∙ same-k in
       let hs-is : hs ≡ A .new = ap (λ y. y .1) same ∙ A .whole in
       record {
-        w = D .e ++ D .l ++ D .c ++ S .w₁ ++ S .w₂;
+        w = D .e ++ D .l ++ D .c ++ B .w₂;
         rest = P .rest;
         l = D .g;
         whole = P .whole ∙ ap (λ y. y ++ P .rest) whole;
         place = omega (arith, P .place, ap length whole);
-        head = subst (λ y. head r start-line (D .e ++ D .l ++ D .c ++ S .w₁ ++ S .w₂) (D .g) (fieldsOf z y)) (sym hs-is) (grammar.head.message (D .empty) (D .line) (D .ends) (before-derived r (S .left .all)) (A .block));
+        head = subst (λ y. head r start-line (D .e ++ D .l ++ D .c ++ B .w₂) (D .g) (fieldsOf z y)) (sym hs-is) (grammar.head.message (D .empty) (D .line) (D .ends) (A .block));
         says = subst (λ y. Says z y (D .g)) (sym k-is) (D .says);
         fits = omega (arith, A .fits (omega arith), ap length (ap (λ y. y .1) same));
       }
 
-  -- behind the start line the blanks before the block and the block are left
-  line-got : (z w rest : List ℕ) (k : K) → At z 0 w rest → G 0 w k rest → read z ≡ over k (section r n z (0 + length w))
+  -- behind the start line the block is left
+  line-got : (z w rest : List ℕ) (k : K) → At z 0 w rest → G 0 w k rest → read z ≡ over k (block r n [] z (0 + length w))
   line-got z w rest k h g =
       head-parts r n m known s z
-      ∙ ap (λ a. headed a (λ k q. over k (section r n z q))) (ap (λ y. answer known (run m s 0 y)) (from-at h) ∙ ap (answer known) (M .complete 0 w rest k g))
+      ∙ ap (λ a. headed a (λ k q. over k (block r n [] z q))) (ap (λ y. answer known (run m s 0 y)) (from-at h) ∙ ap (answer known) (M .complete 0 w rest k g))
 
-  -- a head by its start line, whose bytes are w, and what is behind it
-  record Behind-line (z w rest : List ℕ) (l : L) (p : ℕ) (b : List ℕ) : Type 0 where
+  -- a head by its start line, whose bytes are w, and the block b behind it
+  record Behind-line (z w b rest : List ℕ) (l : L) : Type 0 where
     k : K
     says : Says z k l
-    there : At z p b rest
-    answers : read z ≡ over k (section r n z (0 + length w))
-    sections : section r n z (0 + length w) ≡ block r n [] z p
+    there : At z (0 + length w) b rest
+    answers : read z ≡ over k (block r n [] z (0 + length w))
 
-  behind-line : (e v c g b rest : List ℕ) (l : L) {fs : List Field} → empty-lines r e → start-line v l → line-end r c → grammar.before-first-name r g → header-block r b fs → Behind-line (e ++ v ++ c ++ g ++ b ++ rest) (e ++ v ++ c) rest l (0 + length (e ++ v ++ c ++ g)) b
-  behind-line e v c g b rest l empty line ends before fields =
-      let z : List ℕ = e ++ v ++ c ++ g ++ b ++ rest in
-      let h = at-start (e ++ v ++ c ++ g ++ b) rest in
-      let h₁ = at-first (e ++ v ++ c ++ g) b h in
-      let R = reads z e v c (g ++ (b ++ rest)) l (at-first (e ++ v ++ c) g h₁) empty line ends in
-      let place : 0 + length (e ++ v ++ c) + length g ≡ 0 + length (e ++ v ++ c ++ g) = omega (arith, length-append (e ++ v ++ c) g) in
-      record { k = R .k; says = R .says; there = at-second (e ++ v ++ c ++ g) b h; answers = line-got z (e ++ v ++ c) (g ++ (b ++ rest)) (R .k) (at-first (e ++ v ++ c) g h₁) (R .reads); sections = before-read z r n rest (at-second (e ++ v ++ c) g h₁) before fields ∙ ap (block r n [] z) place }
+  behind-line : (e v c b rest : List ℕ) (l : L) → empty-lines r e → start-line v l → line-end r c → Behind-line (e ++ v ++ c ++ b ++ rest) (e ++ v ++ c) b rest l
+  behind-line e v c b rest l empty line ends =
+      let z : List ℕ = e ++ v ++ c ++ b ++ rest in
+      let h = at-start (e ++ v ++ c ++ b) rest in
+      let h₁ = at-first (e ++ v ++ c) b h in
+      let R = reads z e v c (b ++ rest) l h₁ empty line ends in
+      record { k = R .k; says = R .says; there = at-second (e ++ v ++ c) b h; answers = line-got z (e ++ v ++ c) (b ++ rest) (R .k) h₁ (R .reads) }
 
   complete-head : (w rest : List ℕ) (l : L) (fs : List Field) → head r start-line w l fs → length fs ≤ n → Tells (head r start-line) Says n (w ++ rest) l fs (λ k hs. got (k, hs) (length w)) (read (w ++ rest))
-  complete-head w rest l fs (grammar.head.message {e = e} {w = v} {c = c} {s = g} {b = b} empty line ends before block) f =
-      let z : List ℕ = e ++ v ++ c ++ g ++ b ++ rest in
-      let D = behind-line e v c g b rest l empty line ends before block in
-      let F = block-read z r n (D .there) block [] (omega (arith, f)) in
-      let q : 0 + length (e ++ v ++ c ++ g) + length b ≡ length (e ++ v ++ c ++ g ++ b) = omega (arith, length-append (e ++ v ++ c ++ g) b) in
-      record { k = D .k; hs = F .new; says = D .says; holds = F .holds; answers = D .answers ∙ ap (over (D .k)) (D .sections ∙ F .answers) ∙ ap (got (D .k, F .new)) q }
+  complete-head w rest l fs (grammar.head.message {e = e} {w = v} {c = c} {b = b} empty line ends block) f =
+      let z : List ℕ = e ++ v ++ c ++ b ++ rest in
+      let D = behind-line e v c b rest l empty line ends in
+      let F = block-read z r n (D .there) block [] refl (omega (arith, f)) in
+      let q : 0 + length (e ++ v ++ c) + length b ≡ length (e ++ v ++ c ++ b) = omega (arith, length-append (e ++ v ++ c) b) in
+      record { k = D .k; hs = F .new; says = D .says; holds = F .holds; answers = D .answers ∙ ap (over (D .k)) (F .answers) ∙ ap (got (D .k, F .new)) q }
 
   over-head : (w rest : List ℕ) (l : L) (fs : List Field) → head r start-line w l fs → n < length fs → (c : ℕ) × Tells (head r start-line) Says n (w ++ rest) l (take n fs) (λ k hs. bad (fault TooManyHeaders c, (k, hs))) (read (w ++ rest))
-  over-head w rest l fs (grammar.head.message {e = e} {w = v} {c = c} {s = g} {b = b} empty line ends before block) f =
-      let z : List ℕ = e ++ v ++ c ++ g ++ b ++ rest in
-      let D = behind-line e v c g b rest l empty line ends before block in
-      let F = block-over z r n (D .there) block [] (omega arith) (omega (arith, f)) in
+  over-head w rest l fs (grammar.head.message {e = e} {w = v} {c = c} {b = b} empty line ends block) f =
+      let z : List ℕ = e ++ v ++ c ++ b ++ rest in
+      let D = behind-line e v c b rest l empty line ends in
+      let F = block-over z r n (D .there) block [] refl (omega arith) (omega (arith, f)) in
       let j : n - 0 ≡ n = omega arith in
-      (F .position, record { k = D .k; hs = F .new; says = D .says; holds = F .holds ∙ ap (λ y. take y fs) j; answers = D .answers ∙ ap (over (D .k)) (D .sections ∙ F .answers) })
+      (F .position, record { k = D .k; hs = F .new; says = D .says; holds = F .holds ∙ ap (λ y. take y fs) j; answers = D .answers ∙ ap (over (D .k)) (F .answers) })
 
   pub exactly : Exactly (head r start-line) Says n read
   exactly = record {

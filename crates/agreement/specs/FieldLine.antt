@@ -1,25 +1,25 @@
--- A line of a block is read exactly where the grammar has a field line or an empty line, and its pieces hold the field.
+-- A line of a block is read exactly where the grammar has a field line, an empty line or one that is passed over, and its pieces hold the field.
 -- Assumes nothing.
 use Prim.Native.Nat.{ℕ, _+_, _≤_}
 use native.Mathlib.Omega.{arith}
 use mathlib.Core.Path.{_≡_, refl, sym, ap, subst, _∙_}
 use mathlib.Core.List.{List, _∷_, _++_, append-assoc}
-use mathlib.Core.Bool.{Bool, true, false, _&&_, _||_, and-false}
+use mathlib.Core.Bool.{Bool, true, false, _&&_, _||_}
 use lib.ListN.{length, length-append}
 use Rattle.reader.specs.Tests.{never}
 use Rattle.exact.specs.Branch.{one, other}
-use Rattle.octets.specs.Class.{isToken}
 use Rattle.octets.specs.Ties.{token-is-tchar}
-use Rattle.octets.specs.Outside.{differs-test, cr-no-token, lf-no-token}
 use Rattle.rules.specs.Rules.{Rules}
 use Rattle.grammar.specs.Rows.{some}
 use Rattle.grammar.specs.Fields.{Field}
-use Rattle.grammar.specs.Message.{line-end, crlf, lf, field-line, colon}
+use Rattle.grammar.specs.Message.{line-end, crlf, lf, field-line, ignored-line, colon}
 use Rattle.grammar.specs.Message as grammar
 use Rattle.parts.specs.declared.Piece.{Piece}
 use Rattle.parts.specs.Answers.{piece}
 use Rattle.fields.specs.declared.Header.{Header}
-use Rattle.fields.specs.Line.{Kind, header, end, named, ends}
+use Rattle.fields.specs.Line.{Kind, header, end, ignored, named}
+use Rattle.agreement.specs.Tried.{good, wrong}
+use Rattle.agreement.specs.IgnoredLine.{token-no-end, ignored-derived}
 use Rattle.agreement.specs.Line.{Fielded, Lined}
 use Rattle.agreement.specs.Places.{held, At, at-as, at-first, at-second, held-at}
 use Rattle.agreement.specs.Steps.{passed-is}
@@ -38,9 +38,7 @@ NoMore r rest = r .multiline-headers ≡ true → NoBlank rest
 pub data LineIs (z : List ℕ) (r : Rules) (w : List ℕ) (k : Kind) (rest : List ℕ) : Type 0 where
   ended : k ≡ end → line-end r w → LineIs z r w k rest
   field : (h : Header) (l e : List ℕ) → k ≡ header h → w ≡ l ++ e → field-line r l (fieldOf z h) → line-end r e → NoMore r rest → LineIs z r w k rest
-
-token-no-end : (r : Rules) (b : ℕ) → isToken b ≡ true → ends r b ≡ false
-token-no-end r b t = rw (differs-test isToken b 13 cr-no-token t, differs-test isToken b 10 lf-no-token t) (and-false (r .lf-alone))
+  passed : k ≡ ignored → r .ignore-invalid-headers ≡ true → ignored-line r w → LineIs z r w k rest
 
 -- name, what is behind it, colon, value with what is around it, line end, in two ways of grouping
 regroup : (n s c o v t e : List ℕ) → (n ++ s ++ c) ++ ((o ++ v ++ t) ++ e) ≡ n ++ s ++ c ++ o ++ v ++ t ++ e
@@ -64,7 +62,8 @@ module _ {z : List ℕ} {r : Rules} {p : ℕ} {rest : List ℕ} where
 
   pub line-derived : {w : List ℕ} {k : Kind} → At z p w rest → Lined r p w k rest → LineIs z r w k rest
   line-derived {k = k} h (one b bs e t K) = let kind : k ≡ end = cc in ended kind (K .holds)
-  line-derived h (other b bs e t K) = fielded h K
+  line-derived h (other b bs e t (good K)) = fielded h K
+  line-derived h (other b bs e t (wrong w₁ w₂ o i W R j)) = passed j o (subst (ignored-line r) (sym i) (ignored-derived rest b bs (ap (λ y. y ++ rest) (sym i) ∙ e) t W R))
 
 -- the header that is given for a field line
 pub record Header-read (z : List ℕ) (r : Rules) (p : ℕ) (w : List ℕ) (f : Field) (rest : List ℕ) : Type 0 where
@@ -91,7 +90,7 @@ module _ {z : List ℕ} {r : Rules} {p : ℕ} {rest : List ℕ} where
       } in
       record {
         h = record { name = piece p (p + length n); value = G .a };
-        reads = other b (m ++ s ++ colon ++ o ++ v ++ t ++ e ++ rest) refl (token-no-end r b (token-is-tchar b .1 x)) K;
+        reads = other b (m ++ s ++ colon ++ o ++ v ++ t ++ e ++ rest) refl (token-no-end r b (token-is-tchar b .1 x)) (good K);
         holds = ap (λ y. record { name = y; value = held z (G .a) }) named-n ∙ ap (λ y. record { name = n; value = y }) (G .holds);
       }
 
@@ -119,7 +118,8 @@ kind-value e = cc
 -- a header's name begins where its line does
 pub name-first : (r : Rules) {p : ℕ} {w rest : List ℕ} {h : Header} → Lined r p w (header h) rest → h .name .offset ≡ p
 name-first r (one b bs e t K) = never cc
-name-first r {p} {h = h} (other b bs e t K) =
+name-first r (other b bs e t (wrong w₁ w₂ o i W R j)) = never cc
+name-first r {p} {h = h} (other b bs e t (good K)) =
     let same : header h ≡ named (K .a) (K .right .a) = passed-is (K .right .passes) in
     let N : NameIs r p (K .w₁) (K .a) = name-derived (K .left) in
     ap (λ (y : Piece). y .offset) (kind-name same ∙ N .place)
@@ -127,7 +127,8 @@ name-first r {p} {h = h} (other b bs e t K) =
 -- where a line is a header's, its pieces are those that were read
 pub line-in : {r : Rules} {p : ℕ} {w rest : List ℕ} {h : Header} → Lined r p w (header h) rest → HeaderIn (p + length w) h
 line-in (one b bs e t K) = never cc
-line-in {r} {p = p} {w = w} {h = h} (other b bs e t K) =
+line-in (other b bs e t (wrong w₁ w₂ o i W R j)) = never cc
+line-in {r} {p = p} {w = w} {h = h} (other b bs e t (good K)) =
     let same : header h ≡ named (K .a) (K .right .a) = passed-is (K .right .passes) in
     let l : length w ≡ length (K .w₁) + length (K .w₂) = ap length (K .whole) ∙ length-append (K .w₁) (K .w₂) in
     let i = name-in r (K .left) in

@@ -1,7 +1,7 @@
 -- What the machines refuse with: the byte that is wrong, or that the slots are full.
 -- Assumes nothing.
 use Prim.Native.Nat.{ℕ, _≤_}
-use mathlib.Core.Path.{_≡_, refl, subst}
+use mathlib.Core.Path.{_≡_, refl, sym, ap, subst, _∙_}
 use mathlib.Core.Logic.{_⊎_, inl, inr}
 use mathlib.Core.List.{List, [], _∷_, _++_}
 use mathlib.Core.Bool.{Bool, true, false, cond, _&&_}
@@ -14,9 +14,10 @@ use Rattle.reader.specs.Seq.{first}
 use Rattle.reader.specs.Loop.{Turn, again}
 use Rattle.reader.specs.Branch.{fresh}
 use Rattle.reader.specs.Chain.{part}
-use Rattle.reader.specs.Refusals.{Refusal, Refuses, refused-is, passes, refuses-judged, refuses-seq, refuses-branch, refuses-loop}
+use Rattle.reader.specs.Refusals.{Refusal, Refuses, refused-is, refuses-as, passes, refuses-judged, refuses-seq, refuses-branch, refuses-loop}
+use Rattle.reader.specs.Rescued.{refuses-rescue}
 use Rattle.reader.specs.Tests.{split, never}
-use Rattle.octets.specs.Class.{isDigit, isBlank, isToken, isValue}
+use Rattle.octets.specs.Class.{isDigit, isToken, isValue}
 use Rattle.utf8.specs.Reader.{whole}
 use Rattle.rules.specs.Rules.{Rules}
 use Rattle.parts.specs.declared.Error.{Error}
@@ -27,11 +28,7 @@ use Rattle.parts.specs.Byte.{byteStep}
 use Rattle.parts.specs.LineEnd.{begin, cr, lineEndStep}
 use Rattle.parts.specs.EmptyLines.{start, cr as behind-cr, emptyLinesStep}
 use Rattle.words.specs.Word.{none, some, wordStep}
-use Rattle.gaps.specs.Gap.{gapStep, behindGap, blanksIf}
-use Rattle.names.specs.Name.{tokenStep, colonStep, gapColon, nameStep}
-use Rattle.names.specs.Name as names
-use Rattle.folds.specs.Folded.{valueLineStep, joined, nextStep, turn, foldedStep, nothing-yet, linesStep}
-use Rattle.folds.specs.Folded as folds
+use Rattle.gaps.specs.Gap.{gapStep, behindGap}
 use Rattle.words.specs.Target.{targetByte, targetStep}
 use Rattle.words.specs.Target as targets
 use Rattle.versions.specs.Version.{name, versionStep}
@@ -40,13 +37,14 @@ use Rattle.status.specs.Code.{codeStep}
 use Rattle.status.specs.Code as codes
 use Rattle.status.specs.Reason.{reasonStep}
 use Rattle.status.specs.Reason as reasons
-use Rattle.values.specs.Value.{blanks, inside, valueStep}
 use Rattle.fields.specs.declared.Header.{Header}
-use Rattle.fields.specs.Line.{Kind, header, end, named, fieldStep, ends, lineStep}
-use Rattle.blocks.specs.Block.{taken, lapStep, blockStep}
+use Rattle.ignored.specs.Rest.{isIgnorable, restStep, behindByte}
+use Rattle.fields.specs.Wrong.{blamed, Wrong}
+use Rattle.fields.specs.Line.{Kind, header, end, ignored, fieldStep, field-refuses, ignoredStep, triedStep, untried, ends, lineStep}
+use Rattle.blocks.specs.Block.{taken, blanksBefore, nextLineStep, lapStep, blockStep}
 use Rattle.requestline.specs.RequestLine as requests
 use Rattle.statusline.specs.StatusLine as statuses
-use Rattle.heads.specs.Head.{blanksBefore, sectionStep, Known, sectionOn, headStep}
+use Rattle.heads.specs.Head.{Known, blockOn, headStep}
 
 -- an error that says nothing of slots
 abbrev pub Ordinary : Error → Type 0
@@ -124,44 +122,34 @@ reason-refuses : Refuses Located reasonStep
 reason-refuses reasons.none p b = split (Refusal (Located p)) (isValue b) (λ _. tt) (λ _. tt)
 reason-refuses (reasons.inside a o) p b = split (Refusal (Located p)) (isValue b) (λ _. tt) (λ _. tt)
 
-value-refuses : Refuses Located valueStep
-value-refuses blanks p b = split (Refusal (Located p)) (isBlank b) (λ _. tt) (λ _. split (Refusal (Located p)) (isValue b) (λ _. tt) (λ _. tt))
-value-refuses (inside v e) p b = split (Refusal (Located p)) (isValue b) (λ _. tt) (λ _. tt)
-
 -- a gap refuses nothing
 gap-refuses : (class : ℕ → Bool) {S A F : Type 0} (P : ℕ → F → Type 0) (m : Step S A F) (s : S) → Refuses P m → Refuses P (behindGap class m s)
 gap-refuses class P m s M = refuses-seq P (gapStep class) (λ _. s) (λ _. m) (λ _ p b. split (Refusal (P p)) (class b) (λ _. tt) (λ _. tt)) (λ _. M)
 
-token-refuses : Refuses Located tokenStep
-token-refuses names.none p b = split (Refusal (Located p)) (isToken b) (λ _. tt) (λ _. located name-ordinary p)
-token-refuses (names.some a) p b = split (Refusal (Located p)) (isToken b) (λ _. tt) (λ _. tt)
-
-name-refuses : (r : Rules) → Refuses Located (nameStep r)
-name-refuses r =
-    refuses-seq Located tokenStep (λ _. first tt) (λ n. judged (λ _. pass n) (λ e. e) (gapColon r)) token-refuses (λ n.
-    refuses-judged Located Located (λ _. pass n) (λ e. e) (gapColon r) (passes Located (λ _. n)) (λ p e h. h) (gap-refuses (blanksIf (r .spaces-after-name)) Located colonStep tt (byte-refuses 58 HeaderName name-ordinary)))
-
--- a value, over its lines
-value-line-refuses : (r : Rules) → Refuses Located (valueLineStep r)
-value-line-refuses r =
-    refuses-seq Located valueStep (λ v. begin) (λ v. judged (λ _. pass v) (λ e. e) (lineEndStep r HeaderValue)) value-refuses (λ v.
-    refuses-judged Located Located (λ _. pass v) (λ e. e) (lineEndStep r HeaderValue) (passes Located (λ _. v)) (λ p e h. h) (end-refuses r HeaderValue value-ordinary))
-
-lines-refuses : (r : Rules) → Refuses Located (linesStep r)
-lines-refuses r =
-    refuses-branch Located (λ _. r .multiline-headers) (foldedStep r) (nothing-yet, first (first blanks)) (valueLineStep r) (first blanks)
-    (refuses-loop (λ _. first (first blanks)) Located (folds.lapStep r) (λ a.
-    refuses-seq Located (valueLineStep r) (λ v. tt) (λ v. judged (λ t. pass (turn (joined a v) t)) (λ e. e) nextStep) (value-line-refuses r) (λ v.
-    refuses-judged Located Located (λ t. pass (turn (joined a v) t)) (λ e. e) nextStep (passes Located (turn (joined a v))) (λ p e h. h) (λ _ p b. tt))))
-    (value-line-refuses r)
-
 -- a line
+wrong-located : (p : ℕ) (x : Fault) → Wrong p x → Located p x
+wrong-located p x w = record { ordinary = λ e. by (x .error) e (w .error); there = w .there }
+  where
+    by : (e : Error) → e ≡ TooManyHeaders → blamed e ≡ e → ⊥
+    by e t k = let u : blamed TooManyHeaders ≡ TooManyHeaders = ap blamed (sym t) ∙ k ∙ t in value-ordinary u
+
+blamed-ordinary : (e : Error) → Ordinary (blamed e)
+blamed-ordinary HeaderName = name-ordinary
+blamed-ordinary HeaderValue = value-ordinary
+blamed-ordinary NewLine = value-ordinary
+blamed-ordinary Status = value-ordinary
+blamed-ordinary Token = value-ordinary
+blamed-ordinary TooManyHeaders = value-ordinary
+blamed-ordinary Version = value-ordinary
+
+ignored-refuses : (r : Rules) (x : Fault) → Refuses Located (ignoredStep r x)
+ignored-refuses r x = refuses-judged Located Located (λ _. pass ignored) (λ e. e) (restStep r (blamed (x .error))) (passes Located (λ _. ignored)) (λ p e h. h) (gap-refuses isIgnorable Located (lineEndStep r (blamed (x .error))) begin (end-refuses r (blamed (x .error)) (blamed-ordinary (x .error))))
+
 pub line-refuses : (r : Rules) → Refuses Located (lineStep r)
 line-refuses r =
-    refuses-branch Located (ends r) (judged (λ _. pass end) (λ e. e) (lineEndStep r NewLine)) begin (fieldStep r) (first (first names.none))
+    refuses-branch Located (ends r) (judged (λ _. pass end) (λ e. e) (lineEndStep r NewLine)) begin (triedStep r) untried
     (refuses-judged Located Located (λ _. pass end) (λ e. e) (lineEndStep r NewLine) (passes Located (λ _. end)) (λ p e h. h) (end-refuses r NewLine line-ordinary))
-    (refuses-seq Located (nameStep r) (λ n. fresh) (λ n. judged (λ v. pass (named n v)) (λ e. e) (linesStep r)) (name-refuses r) (λ n.
-    refuses-judged Located Located (λ v. pass (named n v)) (λ e. e) (linesStep r) (passes Located (named n)) (λ p e h. h) (lines-refuses r)))
+    (refuses-rescue (r .ignore-invalid-headers) (fieldStep r) behindByte (ignoredStep r) Located (refuses-as Wrong Located wrong-located (fieldStep r) (field-refuses r)) (ignored-refuses r))
 
 -- what a block refuses with: the byte at p decided, or the slots that hold hs are full
 pub record Full (n p : ℕ) (x : Fault) (hs : List Header) : Type 0 where
@@ -173,6 +161,7 @@ ordinary-full hs d = record { there = λ _. d .there; full = λ u. absurd (d .or
 
 taken-full : (n : ℕ) (hs : List Header) (k : Kind) (p : ℕ) (x : Fault × List Header) → taken n hs k ≡ fail x → Full n p (x .0) (x .1)
 taken-full n hs end p x e = never cc
+taken-full n hs ignored p x e = never cc
 taken-full n hs (header h) p x e = by (ltb (length hs) n) refl e
   where
     by : (t : Bool) → ltb (length hs) n ≡ t → _≡_ {A = Verdict (Turn (List Header) (List Header)) (Fault × List Header)} (cond t (pass (again (hs ++ (h ∷ [])))) (fail (fault TooManyHeaders (h .name .offset), hs))) (fail x) → Full n p (x .0) (x .1)
@@ -183,8 +172,8 @@ taken-full n hs (header h) p x e = by (ltb (length hs) n) refl e
 
 block-refuses : (r : Rules) (n : ℕ) → Refuses (λ p x. Full n p (x .0) (x .1)) (blockStep r n)
 block-refuses r n =
-    refuses-loop (λ _. fresh) (λ p x. Full n p (x .0) (x .1)) (lapStep r n)
-    (λ hs. refuses-judged Located (λ p x. Full n p (x .0) (x .1)) (taken n hs) (λ e. (e, hs)) (lineStep r) (taken-full n hs) (λ p e h. ordinary-full hs h) (line-refuses r))
+    refuses-loop (λ _. first tt) (λ p x. Full n p (x .0) (x .1)) (lapStep r n)
+    (λ hs. refuses-judged Located (λ p x. Full n p (x .0) (x .1)) (taken n hs) (λ e. (e, hs)) (nextLineStep r hs) (taken-full n hs) (λ p e h. ordinary-full hs h) (gap-refuses (blanksBefore r hs) Located (lineStep r) fresh (line-refuses r)))
 
 -- a start line
 abbrev pub LocatedLine : {K : Type 0} → ℕ → Fault × K → Type 0
@@ -222,12 +211,12 @@ module _ (r : Rules) (n : ℕ) {K S : Type 0} (m : Step S K (Fault × K)) (known
 
   head-refuses : Refuses FullHead (headStep r n m known s)
   head-refuses =
-      refuses-seq FullHead (judged pass (λ x. (x .0, (x .1, []))) m) (λ _. first tt) (sectionOn r n m known s)
+      refuses-seq FullHead (judged pass (λ x. (x .0, (x .1, []))) m) (λ _. ([], first tt)) (blockOn r n m known s)
       (refuses-judged LocatedLine FullHead pass (λ x. (x .0, (x .1, []))) m (passes FullHead (λ k. k)) (λ p x h. ordinary-full [] h) M)
-      (λ k. refuses-judged (λ p x. Full n p (x .0) (x .1)) FullHead (λ hs. pass (k, hs)) (λ x. (x .0, (k, x .1))) (sectionStep r n) (passes FullHead (λ hs. (k, hs))) (λ p x h. h) (gap-refuses (blanksBefore r) (λ p x. Full n p (x .0) (x .1)) (blockStep r n) ([], fresh) (block-refuses r n)))
+      (λ k. refuses-judged (λ p x. Full n p (x .0) (x .1)) FullHead (λ hs. pass (k, hs)) (λ x. (x .0, (k, x .1))) (blockStep r n) (passes FullHead (λ hs. (k, hs))) (λ p x h. h) (block-refuses r n))
 
   pub head-full : (z : List ℕ) (x : Fault × Known K) (q : ℕ) → runAt (headStep r n m known s) (first s) z 0 ≡ refused x q → Full n q (x .0) (x .1 .1)
   head-full z x q e = refused-is FullHead (headStep r n m known s) head-refuses z (first s) 0 x q e
 
-pub block-full : (r : Rules) (n : ℕ) (z : List ℕ) (x : Fault × List Header) (q : ℕ) → runAt (blockStep r n) ([], fresh) z 0 ≡ refused x q → Full n q (x .0) (x .1)
-block-full r n z x q e = refused-is (λ p x. Full n p (x .0) (x .1)) (blockStep r n) (block-refuses r n) z ([], fresh) 0 x q e
+pub block-full : (r : Rules) (n : ℕ) (z : List ℕ) (x : Fault × List Header) (q : ℕ) → runAt (blockStep r n) ([], first tt) z 0 ≡ refused x q → Full n q (x .0) (x .1)
+block-full r n z x q e = refused-is (λ p x. Full n p (x .0) (x .1)) (blockStep r n) (block-refuses r n) z ([], first tt) 0 x q e

@@ -1,5 +1,3 @@
-pub mod Line
-pub mod Block
 pub mod StartLine
 pub mod Head
 pub mod Places
@@ -9,6 +7,13 @@ pub mod Names
 pub mod Around
 pub mod SoFar
 pub mod Folded
+pub mod Wrong
+pub mod Tried
+pub mod Line
+pub mod IgnoredLine
+pub mod AfterAll
+pub mod Block
+pub mod Before
 pub mod FieldLine
 pub mod Fields
 pub mod Colons

@@ -1,4 +1,4 @@
--- A line of a header block is read exactly where a field line or an empty line stands.
+-- A line of a header block is read exactly where a field line, an empty line, or one that is passed over stands.
 -- Assumes nothing.
 use Rattle.reader.specs.Judged.{pass, judged}
 use Rattle.reader.specs.Seq.{first}
@@ -13,10 +13,11 @@ use Rattle.rules.specs.Rules.{Rules}
 use Rattle.parts.specs.LineEnd.{begin, lineEndStep}
 use Rattle.names.specs.Name.{none, nameStep}
 use Rattle.folds.specs.Folded.{linesStep}
-use Rattle.fields.specs.Line.{Kind, end, named, fieldStep, ends, lineStep}
+use Rattle.fields.specs.Line.{Kind, end, named, fieldStep, triedStep, untried, ends, lineStep}
 use Rattle.leaves.specs.LineEnd.{EndsAt, exact-line-end}
 use Rattle.leaves.specs.Name.{Named, exact-name}
 use Rattle.leaves.specs.Folded.{Lines, exact-lines}
+use Rattle.agreement.specs.Tried.{Tried, exact-tried}
 
 -- a name and a colon, then a value up to its line's end
 abbrev pub Fielded : Rules → Relation Kind
@@ -24,7 +25,7 @@ Fielded r = Both (Named r) (λ n. Passes {F = Fault} (λ v. pass (named n v)) (L
 
 -- or an empty line, by the first byte
 abbrev pub Lined : Rules → Relation Kind
-Lined r = Forks (ends r) (Passes {F = Fault} (λ _. pass end) (EndsAt r)) (Fielded r)
+Lined r = Forks (ends r) (Passes {F = Fault} (λ _. pass end) (EndsAt r)) (Tried r (Fielded r))
 
 module _ (r : Rules) where
   exact-field : Exact (fieldStep r) (first (first none)) (Fielded r)
@@ -34,5 +35,5 @@ module _ (r : Rules) where
 
   pub exact-line : Exact (lineStep r) fresh (Lined r)
   exact-line =
-      exact-branch (ends r) (judged (λ _. pass end) (λ e. e) (lineEndStep r NewLine)) begin (fieldStep r) (first (first none))
-      (exact-judged (λ _. pass end) (λ e. e) (lineEndStep r NewLine) (exact-line-end r NewLine)) exact-field
+      exact-branch (ends r) (judged (λ _. pass end) (λ e. e) (lineEndStep r NewLine)) begin (triedStep r) untried
+      (exact-judged (λ _. pass end) (λ e. e) (lineEndStep r NewLine) (exact-line-end r NewLine)) (exact-tried r exact-field)

@@ -3,8 +3,8 @@
 use Prim.Native.Nat.{ℕ, _+_, _≤_}
 use native.Mathlib.Omega.{arith}
 use mathlib.Core.Path.{_≡_, refl, sym, ap, _∙_}
-use mathlib.Core.List.{List, [], _∷_, _++_, append-assoc}
-use mathlib.Core.Bool.{Bool, true, false, _&&_, and-false}
+use mathlib.Core.List.{List, _∷_, _++_, append-assoc}
+use mathlib.Core.Bool.{Bool, true, false, and-false}
 use lib.ListN.{length, length-append}
 use Rattle.reader.specs.Tests.{both-true}
 use Rattle.octets.specs.Grammar.{blank}
@@ -41,14 +41,14 @@ pub no-blank-stops : (allowed : Bool) (b : ℕ) (ys : List ℕ) → isBlank b �
 no-blank-stops allowed b ys h = record { b = b; ys = ys; whole = refl; stops = rw h (and-false allowed) }
 
 module _ (r : Rules) where
-  behind-derived : {w : List ℕ} → Many (In (blanksIf (r .spaces-after-name))) w → behind-name r w
+  pub behind-derived : {w : List ℕ} → Many (In (blanksIf (r .spaces-after-name))) w → behind-name r w
   behind-derived none = grammar.behind-name.nothing
   behind-derived (more {b = b} h k) = grammar.behind-name.blanks (some-allowed (r .spaces-after-name) b h) (all (allowed-blanks (r .spaces-after-name) (more h k)))
     where
       all : {b : ℕ} {v : List ℕ} → Many blank (b ∷ v) → Some blank (b ∷ v)
       all (more x l) = some x l
 
-  behind-read : {w : List ℕ} → behind-name r w → Many (In (blanksIf (r .spaces-after-name))) w
+  pub behind-read : {w : List ℕ} → behind-name r w → Many (In (blanksIf (r .spaces-after-name))) w
   behind-read grammar.behind-name.nothing = none
   behind-read (grammar.behind-name.blanks h k) = in-allowed (r .spaces-after-name) h k
 
@@ -77,7 +77,7 @@ name-derived {r} K =
     }
 
 -- neither a blank nor a colon is a token byte
-blank-no-token : (b : ℕ) (t : Bool) → isToken b ≡ t → isBlank b ≡ true → t ≡ false
+pub blank-no-token : (b : ℕ) (t : Bool) → isToken b ≡ t → isBlank b ≡ true → t ≡ false
 blank-no-token b true e h = sym (sym (token-no-blank b e) ∙ h)
 blank-no-token b false e h = refl
 

@@ -5,7 +5,7 @@ use native.Mathlib.Omega.{arith}
 use native.Mathlib.Decide.{decLt}
 use mathlib.Core.Path.{_≡_, refl, sym, ap, subst, _∙_}
 use mathlib.Core.List.{List, [], _∷_, _++_, append-assoc, append-nil}
-use mathlib.Core.Bool.{Bool, true, false, cond}
+use mathlib.Core.Bool.{Bool, true, false, cond, _&&_, and-false}
 use lib.Dec.{ltb}
 use lib.ListN.{length, getD, take, drop, length-append, length-drop, take-append-drop, List·getD-append}
 use lib.Seq.{getD-take, getD-at, length-take-le, take-at, drop-at, take-take, take-append-le, drop-append-le}
@@ -18,30 +18,29 @@ use Rattle.reader.specs.Branch.{fresh}
 use Rattle.reader.specs.Answer.{Answer, got, short, bad, answer, answered, answered-bad, retold, rounds}
 use Rattle.reader.specs.Chain.{nothing}
 use Rattle.reader.specs.Refusals.{refused-is}
+use Rattle.reader.specs.Skip.{Skipped}
 use Rattle.reader.specs.Decided.{gave-late}
 use Rattle.reader.specs.Tests.{clash, never}
 use Rattle.octets.specs.Grammar.{blank}
 use Rattle.octets.specs.Class.{isBlank}
-use Rattle.octets.specs.Ties.{blank-is-blank, token-is-tchar}
-use Rattle.octets.specs.Outside.{token-no-blank}
+use Rattle.octets.specs.Ties.{blank-is-blank}
 use Rattle.rules.specs.Rules.{Rules}
-use Rattle.grammar.specs.Rows.{some}
-use Rattle.grammar.specs.Fields.{Field}
-use Rattle.grammar.specs.Message.{line-end, field-line}
-use Rattle.grammar.specs.Message as grammar
+use Rattle.grammar.specs.Message.{line-end}
 use Rattle.parts.specs.declared.Error.the-variants.{TooManyHeaders}
 use Rattle.parts.specs.declared.Fault.{Fault}
 use Rattle.parts.specs.Answers.{fault}
 use Rattle.fields.specs.declared.Header.{Header}
-use Rattle.fields.specs.Line.{Kind, header, end, lineStep, line}
-use Rattle.blocks.specs.Block.{taken, block, block-line, given}
+use Rattle.fields.specs.Line.{Kind, header, end, ignored, lineStep, line}
+use Rattle.gaps.specs.Gap.{gapEnd, end-skipped}
+use Rattle.blocks.specs.Block.{taken, noneYet, blanksBefore, block, block-line, given}
 use Rattle.heads.specs.Head.{Heads, over}
 use Rattle.agreement.specs.Line.{exact-line}
 use Rattle.agreement.specs.Places.{at-drop}
+use Rattle.agreement.specs.Before.{before-there}
 use Rattle.agreement.specs.Folded.{NoBlank, behind-same}
-use Rattle.agreement.specs.FieldLine.{NoMore, LineIs, ended, field, line-derived, end-read}
-use Rattle.agreement.specs.There.{Over, line-is-over, line-there, line-open}
-use Rattle.agreement.specs.Fields.{block-begins, line-at, one-more, one-over, the-end, line-first, line-within, few-fields}
+use Rattle.agreement.specs.FieldLine.{NoMore, LineIs, ended, field, passed, line-derived, end-read}
+use Rattle.agreement.specs.There.{Over, line-is-over, line-there, ignored-there, line-open}
+use Rattle.agreement.specs.Fields.{end-begins, field-begins, line-at, one-more, one-over, one-ignored, the-end, line-first, line-within, few-fields}
 use Rattle.agreement.specs.Full.{Located, line-refuses}
 use Rattle.agreement.specs.Promises.{OneTooMany}
 
@@ -75,7 +74,7 @@ module _ (z : List ℕ) (r : Rules) (n : ℕ) where
 
   -- no line's end begins with a blank
   end-no-blank : {e : List ℕ} → line-end r e → NoBlank e
-  end-no-blank {e} d = subst NoBlank (append-nil e) (block-begins (grammar.header-block.end d) [])
+  end-no-blank {e} d = subst NoBlank (append-nil e) (end-begins d [])
 
   -- the byte that shows that a line is over, in the grammar's words and in the reader's
   line-over : {u : List ℕ} → NoBlank u → (b : ℕ) × (v : List ℕ) × (u ≡ b ∷ v) × (blank b → ⊥)
@@ -88,12 +87,21 @@ module _ (z : List ℕ) (r : Rules) (n : ℕ) where
       by true h = absurd (w .3 (blank-is-blank (w .0) .0 h))
       by false h = refl
 
-  -- no field line begins with a blank
-  first-solid : (c : ℕ) {l : List ℕ} {g : Field} (rest : List ℕ) → drop c z ≡ l ++ rest → field-line r l g → c < length z → isBlank (getD z c 0) ≡ false
-  first-solid c rest e (grammar.field-line.line (some {b = b} x n) s o v t) i =
-      let same : getD z c 0 ∷ drop (c + 1) z ≡ b ∷ _ = sym (drop-in z c i) ∙ e in
-      let first : getD z c 0 ≡ b = cc in
-      ap isBlank first ∙ token-no-blank b (token-is-tchar b .1 x)
+  -- no header's line begins with a blank
+  line-solid : (i q : ℕ) (h : Header) → line r z i ≡ got (header h) q → isBlank (getD z i 0) ≡ false
+  line-solid i q h e =
+      let inside = line-within z r n i q (header h) e in
+      let P = exact-line r .sound i (drop i z) (header h) q (answered nothing _ e) in
+      by (line-derived (at-drop z i (P .w) (P .rest) (P .whole) (omega (arith, inside))) (P .holds)) (P .whole) (omega (arith, inside))
+    where
+      by : {w rest : List ℕ} → LineIs z r w (header h) rest → drop i z ≡ w ++ rest → i < length z → isBlank (getD z i 0) ≡ false
+      by (ended k d) whole l = never cc
+      by (passed k o x) whole l = never cc
+      by {rest = rest} (field g w e k s f d o) whole l =
+          let N = field-begins f (e ++ rest) in
+          let same : getD z i 0 ∷ drop (i + 1) z ≡ N .b ∷ N .ys = sym (drop-in z i l) ∙ whole ∙ ap (λ y. y ++ rest) s ∙ append-assoc w e rest ∙ N .whole in
+          let first : getD z i 0 ≡ N .b = cc in
+          ap isBlank first ∙ N .solid
 
   -- the header whose line ends at q has no slot
   record Overflow (hs : List Header) (p : ℕ) (x : Fault) (all : List Header) : Type 0 where
@@ -106,71 +114,109 @@ module _ (z : List ℕ) (r : Rules) (n : ℕ) where
     decides : (u : List ℕ) → NoMore r u → block r n hs (take q z ++ u) p ≡ bad (x, all)
     begins : (e : List ℕ) → line-end r e → block r n hs (take (x .position) z ++ e) p ≡ got all (x .position + length e)
 
-  over-here : (hs : List Header) (p q : ℕ) (h : Header) → line r z p ≡ got (header h) q → n ≤ length hs → Overflow hs p (fault TooManyHeaders (h .name .offset)) hs
-  over-here hs p q h e l =
-      let at-p : h .name .offset ≡ p = line-first z r n p q h e in
-      let inside = line-within z r n p q (header h) e in
+  over-here : (hs : List Header) (p i q : ℕ) (h : Header) → Skipped (blanksBefore r hs) z p i → line r z i ≡ got (header h) q → n ≤ length hs → Overflow hs p (fault TooManyHeaders (h .name .offset)) hs
+  over-here hs p i q h g e l =
+      let at-i : h .name .offset ≡ i = line-first z r n i q h e in
+      let inside = line-within z r n i q (header h) e in
+      let solid : isBlank (getD z i 0) ≡ false = line-solid i q h e in
+      let passed : (y : List ℕ) → take i y ≡ take i z → (i < length y → isBlank (getD y i 0) ≡ false) → Skipped (blanksBefore r hs) y p i = λ y same stops. before-there z y i g (omega arith) (omega (arith, inside)) same (λ _ c. rw (stops c) (and-false (r .space-before-first-name && noneYet hs))) in
+      let passed-in : (j : ℕ) (u : List ℕ) → i < j → j ≤ length z → Skipped (blanksBefore r hs) (take j z ++ u) p i = λ j u c k. passed (take j z ++ u) (take-append-le i (take j z) u (omega (arith, length-take-le j z k, c)) ∙ take-take i j z (omega arith)) (λ _. ap isBlank (List·getD-append (take j z) u 0 i (omega (arith, length-take-le j z k, c)) ∙ getD-take j z i 0 c) ∙ solid) in
       record {
         q = q;
         h = h;
-        reads = ap (line r z) at-p ∙ e;
-        from = omega (arith, at-p);
-        waits = λ j i _ k. block-line r n hs (take j z) p ∙ rw (line-waits j p (omega (arith, k, inside .1)) (omega (arith, at-p, i)) e k);
-        undecided = λ t. block-line r n hs (take q z) p ∙ rw (line-open z r n p e t);
-        decides = λ u o. one-over (take q z ++ u) r n hs h p q (header-there q u p (inside .1) e (omega arith) (λ t. subst NoBlank (sym (drop-at (take q z) u q (length-take-le q z (inside .1)))) (o t))) l;
-        begins = λ w d. ap (λ y. block r n hs (take y z ++ w) p) at-p ∙ the-end (take p z ++ w) r n hs p (p + length w) (empty-there p w (omega (arith, inside)) d) ∙ ap (λ y. got hs (y + length w)) (sym at-p);
+        reads = ap (line r z) at-i ∙ e;
+        from = omega (arith, at-i, g .passed .from);
+        waits = λ j c _ k. block-line r n hs (passed (take j z) (take-take i j z (omega (arith, at-i, c))) (λ y. ap isBlank (getD-take j z i 0 (omega (arith, y, length-take-le j z (omega (arith, k, inside .1))))) ∙ solid)) ∙ rw (line-waits j i (omega (arith, k, inside .1)) (omega (arith, at-i, c)) e k);
+        undecided = λ t. block-line r n hs (subst (λ y. Skipped (blanksBefore r hs) y p i) (append-nil (take q z)) (passed-in q [] (omega (arith, inside)) (inside .1))) ∙ rw (line-open z r n i e t);
+        decides = λ u o. one-over (take q z ++ u) r n hs h q (passed-in q u (omega (arith, inside)) (inside .1)) (header-there q u i (inside .1) e (omega arith) (λ t. subst NoBlank (sym (drop-at (take q z) u q (length-take-le q z (inside .1)))) (o t))) l;
+        begins = λ w d.
+            let size : length (take i z) ≡ i = length-take-le i z (omega (arith, inside)) in
+            let N = end-no-blank d in
+            ap (λ y. block r n hs (take y z ++ w) p) at-i
+            ∙ the-end (take i z ++ w) r n hs (i + length w) (passed (take i z ++ w) (take-append-le i (take i z) w (omega (arith, size)) ∙ take-take i i z (omega arith)) (λ _. ap isBlank (ap (λ y. getD (take i z ++ y) i 0) (N .whole) ∙ getD-at (take i z) (N .b) (N .ys) 0 i size) ∙ N .solid)) (empty-there i w (omega (arith, inside)) d)
+            ∙ ap (λ y. got hs (y + length w)) (sym at-i);
       }
 
-  over-later : (hs : List Header) (p q : ℕ) (h : Header) (x : Fault) (all : List Header) → line r z p ≡ got (header h) q → length hs < n → Overflow (hs ++ (h ∷ [])) q x all → Overflow hs p x all
-  over-later hs p q h x all e l O =
-      let here = line-within z r n p q (header h) e in
+  over-later : (hs : List Header) (p i q : ℕ) (h : Header) (x : Fault) (all : List Header) → Skipped (blanksBefore r hs) z p i → line r z i ≡ got (header h) q → length hs < n → Overflow (hs ++ (h ∷ [])) q x all → Overflow hs p x all
+  over-later hs p i q h x all g e l O =
+      let here = line-within z r n i q (header h) e in
       let inside = line-within z r n (x .position) (O .q) (header (O .h)) (O .reads) in
-      let is-over = line-is-over z r n p e in
+      let is-over = line-is-over z r n i e in
       let all-of : (j : ℕ) → take j z ++ [] ≡ take j z = λ j. append-nil (take j z) in
+      let passed : (j : ℕ) (u : List ℕ) → x .position ≤ j → j ≤ length z → Skipped (blanksBefore r hs) (take j z ++ u) p i = λ j u c k. before-there z (take j z ++ u) (x .position) g (omega (arith, here .0, O .from)) (omega (arith, inside)) (take-append-le (x .position) (take j z) u (omega (arith, length-take-le j z k, c)) ∙ take-take (x .position) j z c) (λ same. absurd (omega (arith, same, here .0, O .from))) in
+      let passed-in : (j : ℕ) → x .position ≤ j → j ≤ length z → Skipped (blanksBefore r hs) (take j z) p i = λ j c k. subst (λ y. Skipped (blanksBefore r hs) y p i) (all-of j) (passed j [] c k) in
       record {
         q = O .q;
         h = O .h;
         reads = O .reads;
-        from = omega (arith, here .0, O .from);
-        waits = λ j i m k.
-            one-more (take j z) r n hs h p q (subst (λ y. line r y p ≡ got (header h) q) (all-of j) (header-there j [] p (omega (arith, k, inside .1)) e (omega (arith, O .from, i)) (behind j i m (omega (arith, k, inside .1)) is-over (decLt q j)))) l ∙ O .waits j i m k;
+        from = omega (arith, here .0, O .from, g .passed .from);
+        waits = λ j c m k.
+            one-more (take j z) r n hs h q (passed-in j c (omega (arith, k, inside .1))) (subst (λ y. line r y i ≡ got (header h) q) (all-of j) (header-there j [] i (omega (arith, k, inside .1)) e (omega (arith, O .from, c)) (behind j c m (omega (arith, k, inside .1)) is-over (decLt q j)))) l ∙ O .waits j c m k;
         undecided = λ t.
-            one-more (take (O .q) z) r n hs h p q (subst (λ y. line r y p ≡ got (header h) q) (all-of (O .q)) (header-there (O .q) [] p (inside .1) e (omega (arith, O .from, inside .0)) (over-take (O .q) [] q (inside .1) (omega (arith, O .from, inside .0)) is-over))) l ∙ O .undecided t;
-        decides = λ u o. one-more (take (O .q) z ++ u) r n hs h p q (header-there (O .q) u p (inside .1) e (omega (arith, O .from, inside .0)) (over-take (O .q) u q (inside .1) (omega (arith, O .from, inside .0)) is-over)) l ∙ O .decides u o;
-        begins = λ w d. one-more (take (x .position) z ++ w) r n hs h p q (header-there (x .position) w p (omega (arith, inside)) e (O .from) (empty w d (omega (arith, inside)) is-over (decLt q (x .position)))) l ∙ O .begins w d;
+            one-more (take (O .q) z) r n hs h q (passed-in (O .q) (omega (arith, inside .0)) (inside .1)) (subst (λ y. line r y i ≡ got (header h) q) (all-of (O .q)) (header-there (O .q) [] i (inside .1) e (omega (arith, O .from, inside .0)) (over-take (O .q) [] q (inside .1) (omega (arith, O .from, inside .0)) is-over))) l ∙ O .undecided t;
+        decides = λ u o. one-more (take (O .q) z ++ u) r n hs h q (passed (O .q) u (omega (arith, inside .0)) (inside .1)) (header-there (O .q) u i (inside .1) e (omega (arith, O .from, inside .0)) (over-take (O .q) u q (inside .1) (omega (arith, O .from, inside .0)) is-over)) l ∙ O .decides u o;
+        begins = λ w d. one-more (take (x .position) z ++ w) r n hs h q (passed (x .position) w (omega arith) (omega (arith, inside))) (header-there (x .position) w i (omega (arith, inside)) e (O .from) (empty w d (omega (arith, inside)) is-over (decLt q (x .position)))) l ∙ O .begins w d;
       }
     where
       behind : (j : ℕ) → x .position ≤ j → (j ≡ x .position → r .multiline-headers ≡ false) → j ≤ length z → Over r z q → Dec (q < j) → Over r (take j z ++ []) q
-      behind j i m k o (yes c) = over-take j [] q k c o
-      behind j i m k o (no c) = λ t. absurd (clash t (m (omega (arith, c, i, O .from))))
+      behind j a m k o (yes c) = over-take j [] q k c o
+      behind j a m k o (no c) = λ t. absurd (clash t (m (omega (arith, c, a, O .from))))
 
       empty : (w : List ℕ) → line-end r w → x .position ≤ length z → Over r z q → Dec (q < x .position) → Over r (take (x .position) z ++ w) q
-      empty w d i o (yes c) = over-take (x .position) w q i c o
-      empty w d i o (no c) = λ t. subst NoBlank (sym (drop-at (take (x .position) z) w q (omega (arith, length-take-le (x .position) z i, O .from, c)))) (end-no-blank d)
+      empty w d a o (yes c) = over-take (x .position) w q a c o
+      empty w d a o (no c) = λ t. subst NoBlank (sym (drop-at (take (x .position) z) w q (omega (arith, length-take-le (x .position) z a, O .from, c)))) (end-no-blank d)
+
+  -- it lies behind a line that is passed over where it lies behind that line's end
+  over-ignored : (hs : List Header) (p i q : ℕ) (x : Fault) (all : List Header) → Skipped (blanksBefore r hs) z p i → line r z i ≡ got ignored q → Overflow hs q x all → Overflow hs p x all
+  over-ignored hs p i q x all g e O =
+      let here = line-within z r n i q ignored e in
+      let inside = line-within z r n (x .position) (O .q) (header (O .h)) (O .reads) in
+      let size : (j : ℕ) → j ≤ length z → length (take j z) ≡ j = λ j k. length-take-le j z k in
+      let onto : (j : ℕ) (u : List ℕ) → x .position ≤ j → j ≤ length z → block r n hs (take j z ++ u) p ≡ block r n hs (take j z ++ u) q = λ j u c k.
+      one-ignored (take j z ++ u) r n hs q
+      (before-there z (take j z ++ u) (x .position) g (omega (arith, here .0, O .from)) (omega (arith, inside)) (take-append-le (x .position) (take j z) u (omega (arith, size j k, c)) ∙ take-take (x .position) j z c) (λ same. absurd (omega (arith, same, here .0, O .from))))
+      (ignored-there z r n i e (take j z ++ u) (take-append-le q (take j z) u (omega (arith, size j k, c, O .from)) ∙ take-take q j z (omega (arith, c, O .from))) (omega (arith, length-append (take j z) u, size j k, c, O .from))) in
+      let alone : (j : ℕ) → x .position ≤ j → j ≤ length z → block r n hs (take j z) p ≡ block r n hs (take j z) q = λ j c k. subst (λ y. block r n hs y p ≡ block r n hs y q) (append-nil (take j z)) (onto j [] c k) in
+      record {
+        q = O .q;
+        h = O .h;
+        reads = O .reads;
+        from = omega (arith, here .0, O .from, g .passed .from);
+        waits = λ j c m k. alone j c (omega (arith, k, inside .1)) ∙ O .waits j c m k;
+        undecided = λ t. alone (O .q) (omega (arith, inside .0)) (inside .1) ∙ O .undecided t;
+        decides = λ u o. onto (O .q) u (omega (arith, inside .0)) (inside .1) ∙ O .decides u o;
+        begins = λ w d. onto (x .position) w (omega arith) (omega (arith, inside)) ∙ O .begins w d;
+      }
 
   module _ (x : Fault) (all : List Header) (o : x .error ≡ TooManyHeaders) where
-    over-line : (hs : List Header) (p : ℕ) → ((hs′ : List Header) (q : ℕ) → p + 1 ≤ q → q ≤ length z → block r n hs′ z q ≡ bad (x, all) → Overflow hs′ q x all) → (a : Answer (Unit {0}) Kind Fault) → line r z p ≡ a → rounds (retold (λ _. hs) (taken n hs) (λ e. (e, hs)) a) (λ hs′ q. block r n hs′ z q) ≡ bad (x, all) → Overflow hs p x all
-    over-line hs p ih (short u) e b = never cc
-    over-line hs p ih (bad y) e b =
+    over-line : (hs : List Header) (p i : ℕ) → Skipped (blanksBefore r hs) z p i → ((hs′ : List Header) (q : ℕ) → p + 1 ≤ q → q ≤ length z → block r n hs′ z q ≡ bad (x, all) → Overflow hs′ q x all) → (a : Answer (Unit {0}) Kind Fault) → line r z i ≡ a → rounds (retold (λ _. hs) (taken n hs) (λ e. (e, hs)) a) (λ hs′ q. block r n hs′ z q) ≡ bad (x, all) → Overflow hs p x all
+    over-line hs p i g ih (short u) e b = never cc
+    over-line hs p i g ih (bad y) e b =
         let v : _≡_ {A = Fault × List Header} (y, hs) (x, all) = cc in
         let w = answered-bad nothing _ e in
-        let d = refused-is Located (lineStep r) (line-refuses r) (drop p z) fresh p y (w .0) (w .1) in
+        let d = refused-is Located (lineStep r) (line-refuses r) (drop i z) fresh i y (w .0) (w .1) in
         absurd (d .ordinary (ap (λ y. y .0 .error) v ∙ o))
-    over-line hs p ih (got end q) e b = never cc
-    over-line hs p ih (got (header h) q) e b = by (ltb (length hs) n) refl b
+    over-line hs p i g ih (got end q) e b = never cc
+    over-line hs p i g ih (got ignored q) e b = let k = line-within z r n i q ignored e in over-ignored hs p i q x all g e (ih hs q (omega (arith, k .0, g .passed .from)) (k .1) b)
+    over-line hs p i g ih (got (header h) q) e b = by (ltb (length hs) n) refl b
       where
         by : (t : Bool) → ltb (length hs) n ≡ t → rounds (retold {U = Unit {0}} (λ _. hs) (λ _. cond t (pass (again (hs ++ (h ∷ [])))) (fail (fault TooManyHeaders (h .name .offset), hs))) (λ (e : Fault). (e, hs)) (got (header h) q)) (λ hs′ q. block r n hs′ z q) ≡ bad (x, all) → Overflow hs p x all
-        by true t b = let k = line-within z r n p q (header h) e in over-later hs p q h x all e (ltb-true (length hs) n t) (ih (hs ++ (h ∷ [])) q (k .0) (k .1) b)
+        by true t b = let k = line-within z r n i q (header h) e in over-later hs p i q h x all g e (ltb-true (length hs) n t) (ih (hs ++ (h ∷ [])) q (omega (arith, k .0, g .passed .from)) (k .1) b)
         by false t b =
             let v : _≡_ {A = Fault × List Header} (fault TooManyHeaders (h .name .offset), hs) (x, all) = cc in
-            subst (λ y. Overflow hs p (y .0) (y .1)) v (over-here hs p q h e (ltb-false (length hs) n t))
+            subst (λ y. Overflow hs p (y .0) (y .1)) v (over-here hs p i q h g e (ltb-false (length hs) n t))
+
+    over-step : (hs : List Header) (p : ℕ) → ((hs′ : List Header) (q : ℕ) → p + 1 ≤ q → q ≤ length z → block r n hs′ z q ≡ bad (x, all) → Overflow hs′ q x all) → block r n hs z p ≡ bad (x, all) → Overflow hs p x all
+    over-step hs p ih b =
+        let g = end-skipped (blanksBefore r hs) z p in
+        over-line hs p (gapEnd (blanksBefore r hs) z p) g ih (line r z (gapEnd (blanksBefore r hs) z p)) refl (sym (block-line r n hs g) ∙ b)
 
     over-by : (m : ℕ) (hs : List Header) (p : ℕ) → length z ≤ p + m → block r n hs z p ≡ bad (x, all) → Overflow hs p x all
-    over-by zero hs p l b = over-line hs p (λ hs′ q i j. absurd (omega (arith, i, j, l))) (line r z p) refl (sym (block-line r n hs z p) ∙ b)
-    over-by (suc m) hs p l b = over-line hs p (λ hs′ q i j. over-by m hs′ q (omega (arith, i, l))) (line r z p) refl (sym (block-line r n hs z p) ∙ b)
+    over-by zero hs p l b = over-step hs p (λ hs′ q i j. absurd (omega (arith, i, j, l))) b
+    over-by (suc m) hs p l b = over-step hs p (λ hs′ q i j. over-by m hs′ q (omega (arith, i, l))) b
 
     -- read is the block behind a start line that told k, wherever the bytes before the error are there
-    module _ {K : Type 0} (read : List ℕ → Heads K) (k : K) (q₀ : ℕ) (b : block r n [] z q₀ ≡ bad (x, all)) (full : n ≤ length all) (lift : q₀ ≤ x .position → x .position ≤ length z → (y : List ℕ) → take (x .position) y ≡ take (x .position) z → (x .position < length y → isBlank (getD y (x .position) 0) ≡ false) → read y ≡ over k (block r n [] y q₀)) where
+    module _ {K : Type 0} (read : List ℕ → Heads K) (k : K) (q₀ : ℕ) (b : block r n [] z q₀ ≡ bad (x, all)) (full : n ≤ length all) (lift : q₀ ≤ x .position → x .position ≤ length z → (y : List ℕ) → take (x .position) y ≡ take (x .position) z → read y ≡ over k (block r n [] y q₀)) where
       pub one-too-many : OneTooMany r n read z (x .position)
       one-too-many =
           let O = over-by (length z) [] q₀ (omega arith) b in
@@ -184,6 +230,7 @@ module _ (z : List ℕ) (r : Rules) (n : ℕ) where
 
           by : (O : Overflow [] q₀ x all) {w : List ℕ} (rest : List ℕ) → LineIs z r w (header (O .h)) rest → drop (x .position) z ≡ w ++ rest → O .q ≡ x .position + length w → OneTooMany r n read z (x .position)
           by O rest (ended i d) whole place = never cc
+          by O rest (passed i o′ y) whole place = never cc
           by O {w} rest (field g l e i s f d o′) whole place =
               let c : ℕ = x .position in
               let inside = line-within z r n c (O .q) (header (O .h)) (O .reads) in
@@ -194,8 +241,7 @@ module _ (z : List ℕ) (r : Rules) (n : ℕ) where
               let up-to : take (O .q) z ≡ take c z ++ (l ++ e) = ap (take (O .q)) all-of ∙ take-at (take c z ++ (l ++ e)) rest (O .q) (omega (arith, length-append (take c z) (l ++ e), size, long)) in
               let located : x ≡ fault TooManyHeaders c = ap (λ y. fault y c) o in
               let as-block = lift (O .from) (omega (arith, inside)) in
-              let solid : isBlank (getD z c 0) ≡ false = first-solid c (e ++ rest) (whole ∙ ap (λ y. y ++ rest) s ∙ append-assoc l e rest) f (omega (arith, inside)) in
-              let told : read z ≡ over k (bad (x, all)) = as-block z refl (λ _. solid) ∙ ap (over k) b in
+              let told : read z ≡ over k (bad (x, all)) = as-block z refl ∙ ap (over k) b in
               record {
                 line = l;
                 end = e;
@@ -209,12 +255,11 @@ module _ (z : List ℕ) (r : Rules) (n : ℕ) where
                 headers = all;
                 told = told ∙ ap (λ y. bad (y, (k, all))) located;
                 full = omega (arith, few, full);
-                waits = λ j m i. as-block (take (c + j) z) (take-take c (c + j) z (omega arith)) (λ y. ap isBlank (getD-take (c + j) z c 0 (omega (arith, y, length-take-le (c + j) z (omega (arith, long, i, inside .1))))) ∙ solid) ∙ ap (over k) (O .waits (c + j) (omega arith) (λ y. m (omega (arith, y))) (omega (arith, long, i)));
-                undecided = λ t. ap read (sym up-to) ∙ as-block (take (O .q) z) (take-take c (O .q) z (omega (arith, inside .0))) (λ _. ap isBlank (getD-take (O .q) z c 0 (omega (arith, inside .0))) ∙ solid) ∙ ap (over k) (O .undecided t);
+                waits = λ j m i. as-block (take (c + j) z) (take-take c (c + j) z (omega arith)) ∙ ap (over k) (O .waits (c + j) (omega arith) (λ y. m (omega (arith, y))) (omega (arith, long, i)));
+                undecided = λ t. ap read (sym up-to) ∙ as-block (take (O .q) z) (take-take c (O .q) z (omega (arith, inside .0))) ∙ ap (over k) (O .undecided t);
                 decides = λ u o″.
                     ap read (sym (append-assoc (take c z) (l ++ e) u) ∙ ap (λ y. y ++ u) (sym up-to))
-                    ∙ as-block (take (O .q) z ++ u) (take-append-le c (take (O .q) z) u (omega (arith, length-take-le (O .q) z (inside .1), inside .0)) ∙ take-take c (O .q) z (omega (arith, inside .0))) (λ _. ap isBlank (List·getD-append (take (O .q) z) u 0 c (omega (arith, length-take-le (O .q) z (inside .1), inside .0)) ∙ getD-take (O .q) z c 0 (omega (arith, inside .0))) ∙ solid)
+                    ∙ as-block (take (O .q) z ++ u) (take-append-le c (take (O .q) z) u (omega (arith, length-take-le (O .q) z (inside .1), inside .0)) ∙ take-take c (O .q) z (omega (arith, inside .0)))
                     ∙ ap (over k) (O .decides u (λ t. no-blank (o″ t))) ∙ sym told;
-                begins = λ w t.
-                    as-block (take c z ++ w) (take-append-le c (take c z) w (omega (arith, size)) ∙ take-take c c z (omega arith)) (λ _. let N = end-no-blank t in ap isBlank (ap (λ y. getD (take c z ++ y) c 0) (N .whole) ∙ getD-at (take c z) (N .b) (N .ys) 0 c size) ∙ N .solid) ∙ ap (over k) (O .begins w t);
+                begins = λ w t. as-block (take c z ++ w) (take-append-le c (take c z) w (omega (arith, size)) ∙ take-take c c z (omega arith)) ∙ ap (over k) (O .begins w t);
               }

@@ -110,7 +110,7 @@ pub record FaultPromise {K : Type 0} (r : Rules) (n : ℕ) (read : List ℕ → 
 
 -- headers alone have no start line
 abbrev pub block-alone : List ℕ → Unit {0} → List Field → Type 0
-block-alone w l fs = header-block default w fs
+block-alone w l fs = header-block default true w fs
 
 abbrev pub says-nothing : List ℕ → Unit {0} → Unit {0} → Type 0
 says-nothing s k l = Unit {0}

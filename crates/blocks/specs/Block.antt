@@ -1,51 +1,64 @@
 -- The header block: lines up to the empty one, each header of which takes a slot.
 -- Assumes nothing.
-use Prim.Native.Nat.{ℕ, _+_, _*_, _/_, _≤_, _<_}
+use Prim.Native.Nat.{ℕ, _+_, _-_, _*_, _/_, _≤_, _<_}
 use native.Mathlib.Omega.{arith}
-use mathlib.Core.Path.{_≡_, refl, sym, ap, _∙_}
+use mathlib.Core.Path.{_≡_, refl, sym, ap, subst, _∙_}
 use mathlib.Core.List.{List, [], _∷_, _++_}
-use mathlib.Core.Bool.{Bool, true, false, _&&_, _||_, cond}
+use mathlib.Core.Bool.{Bool, true, false, _&&_, cond}
 use lib.Dec.{eqb, ltb}
 use lib.ListN.{length, take, drop, length-append, length-take, length-drop}
-use borrow.Author.Tests.{lt-ltb, le-ltb}
+use borrow.Author.Tests.{eq-eqb, ne-eqb, lt-ltb, le-ltb}
 use Rattle.reader.specs.Machine.{Move, keep, give, before, refuse, Step, runAt}
 use Rattle.reader.specs.Judged.{Verdict, pass, fail, moved, judged}
-use Rattle.reader.specs.Seq.{Then, cross}
+use Rattle.reader.specs.Judged as judges
+use Rattle.reader.specs.Decided.{Taken}
+use Rattle.reader.specs.Tests.{never}
+use Rattle.reader.specs.Seq.{first, cross}
+use Rattle.reader.specs.Skip.{Skipped}
 use Rattle.reader.specs.Loop.{Turn, again, done, loop, Fresh}
 use Rattle.reader.specs.Answer.{Answer, got, short, bad, answer, retold, answer-judged, rounds, lapwise, answer-loop}
-use Rattle.reader.specs.Chain.{nothing}
-use Rattle.reader.specs.Lifted.{lifted}
-use Rattle.reader.specs.Branch.{fresh, one, other}
-use Rattle.octets.specs.Class.{isToken}
-use Rattle.parts.specs.declared.Error.the-variants.{HeaderName, NewLine, TooManyHeaders}
+use Rattle.reader.specs.Chain.{nothing, reads}
+use Rattle.reader.specs.Branch.{fresh}
+use Rattle.gaps.specs.Gap.{Behind, blanksIf, behindGap, reads-behind}
+use Rattle.parts.specs.declared.Error.the-variants.{TooManyHeaders}
 use Rattle.parts.specs.declared.Fault.{Fault}
-use Rattle.parts.specs.declared.Piece.{Piece}
 use Rattle.parts.specs.declared.Passed.{Passed}
 use Rattle.parts.specs.declared.Passed.the-variants as passes
 use Rattle.rules.specs.Rules.{Rules}
 use Rattle.rules.specs.declared.LineSettings.{LineSettings}
 use Rattle.rules.specs.Settings.{lineRules}
 use Rattle.parts.specs.Answers.{fault}
-use Rattle.parts.specs.LineEnd.{LineEnd, cr}
-use Rattle.names.specs.Name.{Colon, some}
 use Rattle.fields.specs.declared.Header.{Header}
 use Rattle.fields.specs.declared.Line.{Line}
 use Rattle.fields.specs.declared.Line.the-variants as lines
 use Rattle.blocks.specs.declared.Block.{Block}
-use Rattle.folds.specs.Folded.{LinesState}
-use Rattle.fields.specs.Line.{Kind, header, end, LineState, lineStep, line, lineOf}
+use Rattle.fields.specs.Line.{Kind, header, end, ignored, LineState, lineStep, line, lineOf, line-taken, line-behind}
 use Rattle.blocks.specs.Slots.{numbers, filled, filled-none, filled-more}
 
 -- what a line adds to the headers hs, with n slots
 abbrev pub taken : ℕ → List Header → Kind → Verdict (Turn (List Header) (List Header)) (Fault × List Header)
 taken n hs end = pass (done hs)
+taken n hs ignored = pass (again hs)
 taken n hs (header h) = cond (ltb (length hs) n) (pass (again (hs ++ (h ∷ [])))) (fail (fault TooManyHeaders (h .name .offset), hs))
 
-abbrev pub lapStep : Rules → ℕ → List Header → Step LineState (Turn (List Header) (List Header)) (Fault × List Header)
-lapStep r n hs = judged (taken n hs) (λ e. (e, hs)) (lineStep r)
+-- whether there is no header yet
+abbrev pub noneYet : List Header → Bool
+noneYet [] = true
+noneYet (h ∷ hs) = false
 
-abbrev pub blockStep : Rules → ℕ → Step (List Header × LineState) (List Header) (Fault × List Header)
-blockStep r n = loop (λ _. fresh) (lapStep r n)
+-- the blanks that a setting lets stand before a line until there is one
+abbrev pub blanksBefore : Rules → List Header → ℕ → Bool
+blanksBefore r hs = blanksIf (r .space-before-first-name && noneYet hs)
+
+-- a line behind them
+abbrev pub nextLineStep : Rules → List Header → Step (Behind LineState) Kind Fault
+nextLineStep r hs = behindGap (blanksBefore r hs) (lineStep r) fresh
+
+abbrev pub lapStep : Rules → ℕ → List Header → Step (Behind LineState) (Turn (List Header) (List Header)) (Fault × List Header)
+lapStep r n hs = judged (taken n hs) (λ e. (e, hs)) (nextLineStep r hs)
+
+abbrev pub blockStep : Rules → ℕ → Step (List Header × Behind LineState) (List Header) (Fault × List Header)
+blockStep r n = loop (λ _. first tt) (lapStep r n)
 
 -- the headers that are complete are known at any time
 abbrev pub Blocks : Type 0
@@ -53,24 +66,36 @@ Blocks = Answer (List Header) (List Header) (Fault × List Header)
 
 -- what the block answers from a position on, with n slots and the headers hs before it
 abbrev pub block : Rules → ℕ → List Header → List ℕ → ℕ → Blocks
-block r n hs xs at = answer (lapwise (λ hs _. hs)) (runAt (blockStep r n) (hs, fresh) xs at)
+block r n hs xs at = answer (lapwise (λ hs _. hs)) (runAt (blockStep r n) (hs, first tt) xs at)
 
 -- no line leaves its first byte to the next
-module _ (n : ℕ) (hs hs′ : List Header) (p : ℕ) (begin : Piece → Colon) (c : Piece → Move Colon Piece Fault) (start : Piece → LinesState) (k : Piece → Move LinesState Kind Fault) where
-  never : (t u w : Bool) → moved {S = LineState} (taken n hs) (λ e. (e, hs)) (cond (t || u) (lifted one (moved {S = LineEnd} {A = Unit {0}} (λ _. pass end) (λ e. e) (cond t (keep cr) (cond u (give (tt {0})) (refuse (fault NewLine p)))))) (lifted other (cross (cross (cond w (keep (some p)) (refuse (fault HeaderName p))) begin c) start k))) ≡ before (again hs′) → ⊥
-  never true u w e = let z : _≡_ {A = ℕ} 0 1 = cc in omega arith
-  never false true w e = let z : _≡_ {A = ℕ} 0 1 = cc in omega arith
-  never false false true e = let z : _≡_ {A = ℕ} 0 1 = cc in omega arith
-  never false false false e = let z : _≡_ {A = ℕ} 0 1 = cc in omega arith
+module _ (n : ℕ) (hs hs′ : List Header) where
+  kept-byte : (v : Move LineState Kind Fault) → Taken v → (g : Bool) → moved {S = Behind LineState} (taken n hs) (λ e. (e, hs)) (cross (cond g (keep tt) (before (tt {0}))) (λ _. fresh) (λ _. v)) ≡ before (again hs′) → ⊥
+  kept-byte v t true e = never cc
+  kept-byte (keep s) t false e = never cc
+  kept-byte (give k) t false e = by (taken n hs k) e
+    where
+      by : (w : Verdict (Turn (List Header) (List Header)) (Fault × List Header)) → judges.given {S = Behind LineState} (taken n hs) (λ e. (e, hs)) w ≡ before (again hs′) → ⊥
+      by (pass a) h = never cc
+      by (fail x) h = never cc
+  kept-byte (before k) t false e = absurd t
+  kept-byte (refuse x) t false e = never cc
 
-pub block-fresh : (r : Rules) (n : ℕ) → Fresh (λ _. fresh) (lapStep r n)
-block-fresh r n hs p b hs′ e = never n hs hs′ p _ _ _ _ (eqb b 13) (r .lf-alone && eqb b 10) (isToken b) e
+pub block-fresh : (r : Rules) (n : ℕ) → Fresh (λ _. first tt) (lapStep r n)
+block-fresh r n hs p b hs′ e = kept-byte n hs hs′ (lineStep r fresh p b) (line-taken r p b) (blanksBefore r hs b) e
 
--- a line, and the block from behind it
-pub block-line : (r : Rules) (n : ℕ) (hs : List Header) (xs : List ℕ) (p : ℕ) → block r n hs xs p ≡ rounds (retold (λ _. hs) (taken n hs) (λ e. (e, hs)) (line r xs p)) (λ hs′ q. block r n hs′ xs q)
-block-line r n hs xs p =
-    answer-loop (λ _. fresh) (λ hs _. hs) (lapStep r n) (block-fresh r n) hs fresh xs p
-    ∙ ap (λ a. rounds a (λ hs′ q. block r n hs′ xs q)) (answer-judged (λ _. hs) (taken n hs) (λ e. (e, hs)) nothing (lineStep r) (drop p xs) fresh p)
+-- the line that is read from a position on, and the block from behind it
+abbrev pub nextLine : Rules → List Header → List ℕ → ℕ → Answer (Unit {0}) Kind Fault
+nextLine r hs xs p = reads (nextLineStep r hs) (first tt) xs p
+
+pub block-next : (r : Rules) (n : ℕ) (hs : List Header) (xs : List ℕ) (p : ℕ) → block r n hs xs p ≡ rounds (retold (λ _. hs) (taken n hs) (λ e. (e, hs)) (nextLine r hs xs p)) (λ hs′ q. block r n hs′ xs q)
+block-next r n hs xs p =
+    answer-loop (λ _. first tt) (λ hs _. hs) (lapStep r n) (block-fresh r n) hs (first tt) xs p
+    ∙ ap (λ a. rounds a (λ hs′ q. block r n hs′ xs q)) (answer-judged (λ _. hs) (taken n hs) (λ e. (e, hs)) nothing (nextLineStep r hs) (drop p xs) (first tt) p)
+
+-- it is read where the blanks before it end
+pub block-line : (r : Rules) (n : ℕ) (hs : List Header) {xs : List ℕ} {p q : ℕ} → Skipped (blanksBefore r hs) xs p q → block r n hs xs p ≡ rounds (retold (λ _. hs) (taken n hs) (λ e. (e, hs)) (line r xs q)) (λ hs′ q. block r n hs′ xs q)
+block-line r n hs {xs} {p} g = block-next r n hs xs p ∙ rw (reads-behind g (lineStep r) fresh)
 
 -- the headers that an answer has given
 abbrev pub given : Blocks → List Header
@@ -113,10 +138,18 @@ pub record Kept (settings : LineSettings) (n : ℕ) (xs old new : List ℕ) (at 
 pub kept-none : {settings : LineSettings} {xs old : List ℕ} {at : ℕ} → Kept settings (length old / 4) xs old old at at 0
 kept-none {old = old} = record { hs = []; size = refl; room = omega arith; same = refl; full = filled-none old; fits = omega arith; long = refl }
 
-module _ {settings : LineSettings} {n : ℕ} {xs old new : List ℕ} {at i count : ℕ} (k : Kept settings n xs old new at i count) {l : Line} (e : lineOf l ≡ line (lineRules settings) xs i) where
+none-counted : (hs : List Header) {count : ℕ} → length hs ≡ count → eqb count 0 ≡ noneYet hs
+none-counted [] {count} e = eq-eqb count 0 (sym e)
+none-counted (h ∷ hs) {count} e = ne-eqb count 0 (λ z. omega (arith, e, z))
+
+-- the blanks that the code passes over before a line
+before-line : (settings : LineSettings) (hs : List Header) {count : ℕ} → length hs ≡ count → {xs : List ℕ} {i j : ℕ} → Skipped (blanksIf (settings .«space_before_first_name» && eqb count 0)) xs i j → Skipped (blanksBefore (lineRules settings) hs) xs i j
+before-line settings hs {count} e {xs} {i} {j} b = subst (λ y. Skipped (blanksIf (settings .«space_before_first_name» && y)) xs i j) (none-counted hs e) b
+
+module _ {settings : LineSettings} {n : ℕ} {xs old new : List ℕ} {at i j count : ℕ} (k : Kept settings n xs old new at i count) (b : Skipped (blanksIf (settings .«space_before_first_name» && eqb count 0)) xs i j) {l : Line} (e : lineOf l ≡ line (lineRules settings) xs j) where
   -- the block where its next line is c
   goes : {c : Line} → l ≡ c → block (lineRules settings) n [] xs at ≡ rounds (retold (λ _. k .hs) (taken n (k .hs)) (λ e. (e, k .hs)) (lineOf c)) (λ hs′ q. block (lineRules settings) n hs′ xs q)
-  goes h = k .same ∙ block-line (lineRules settings) n (k .hs) xs i ∙ rw (← e, h)
+  goes h = k .same ∙ block-line (lineRules settings) n (k .hs) (before-line settings (k .hs) (k .size) b) ∙ rw (← e, h)
 
   pub kept-end : {q : ℕ} → l ≡ lines.End q → {r : Block} → r .end ≡ passes.At q → r .count ≡ count → Told (block (lineRules settings) n [] xs at) r old new
   kept-end h x y = tells (k .hs) (rw (goes h, x)) (y ∙ sym (k .size)) (k .full)
@@ -127,7 +160,22 @@ module _ {settings : LineSettings} {n : ℕ} {xs old new : List ℕ} {at i count
   pub kept-bad : {z : Fault} → l ≡ lines.Bad z → {r : Block} → r .end ≡ passes.Bad z → r .count ≡ count → Told (block (lineRules settings) n [] xs at) r old new
   kept-bad h x y = tells (k .hs) (rw (goes h, x)) (y ∙ sym (k .size)) (k .full)
 
+  -- behind each line less is left
+  less : {c : Line} {d : Kind} {q : ℕ} → l ≡ c → lineOf c ≡ got d q → length xs - q < length xs - i
+  less h g = let w = line-behind (lineRules settings) j xs (sym e ∙ ap lineOf h ∙ g) in omega (arith, w, b .passed .from)
+
+  -- a line that is passed over adds nothing
+  module _ {q : ℕ} (h : l ≡ lines.Ignored q) where
+    pub kept-ignored : Kept settings n xs old new at q count
+    kept-ignored = record { hs = k .hs; size = k .size; room = k .room; same = goes h; full = k .full; fits = k .fits; long = k .long }
+
+    pub less-ignored : length xs - q < length xs - i
+    less-ignored = less h refl
+
   module _ {g : Header} {q : ℕ} (h : l ≡ lines.Header g q) where
+    pub less-header : length xs - q < length xs - i
+    less-header = less h refl
+
     pub kept-full : n ≤ count → {r : Block} → r .end ≡ passes.Bad (fault TooManyHeaders (g .name .offset)) → r .count ≡ count → Told (block (lineRules settings) n [] xs at) r old new
     kept-full u x y = tells (k .hs) (rw (goes h, k .size, le-ltb count n u, x)) (y ∙ sym (k .size)) (k .full)
 
@@ -142,4 +190,6 @@ module _ {settings : LineSettings} {n : ℕ} {xs old new : List ℕ} {at i count
       long = ap length s ∙ simp (length-append, length-take, length-drop) (omega (arith, k .fits, k .long));
     }
 
-pub ruleset blocks = (kept-none, kept-end, kept-short, kept-bad, kept-full, kept-more)
+pub ruleset blocks = (kept-none, kept-end, kept-short, kept-bad, kept-full)
+
+pub ruleset lessens = (less-header, less-ignored)

@@ -36,7 +36,8 @@ pub fn header_block(s: &[u8], at: usize, slots: &mut [usize], settings: LineSett
     let mut i = at;
     let mut count: usize = 0;
     loop {
-        let line = fields::header_line(s, i, settings);
+        let first = gaps::blanks(s, i, settings.space_before_first_name & (count == 0));
+        let line = fields::header_line(s, first, settings);
         match line {
             Line::Header(header, next) => {
                 let name = header.name;
@@ -59,6 +60,9 @@ pub fn header_block(s: &[u8], at: usize, slots: &mut [usize], settings: LineSett
                     value.length,
                 );
                 count += 1;
+                i = next;
+            }
+            Line::Ignored(next) => {
                 i = next;
             }
             Line::End(next) => {

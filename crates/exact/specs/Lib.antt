@@ -3,3 +3,4 @@ pub mod Seq
 pub mod Judged
 pub mod Loop
 pub mod Branch
+pub mod Refusing

@@ -17,13 +17,13 @@ pub data Laps {A B : Type 0} (G : A → Relation (Turn A B)) : A → ℕ → Lis
   next : {a a′ : A} {p : ℕ} {w₁ w₂ : List ℕ} {b : B} {rest : List ℕ} → G a p w₁ (again a′) (w₂ ++ rest) → Laps G a′ (p + length w₁) w₂ b rest → Laps G a p (w₁ ++ w₂) b rest
 
 module _ {A S B F : Type 0} (start : A → S) (m : A → Step S (Turn A B) F) (fresh : Fresh start m) where
-  lap-run : (a : A) (p : ℕ) (xs : List ℕ) → run (loop start m) (a, start a) p xs ≡ round start a (run (m a) (start a) p xs) (λ a′ q. run (loop start m) (a′, start a′) q (drop q (replicate p 0 ++ xs)))
+  pub lap-run : (a : A) (p : ℕ) (xs : List ℕ) → run (loop start m) (a, start a) p xs ≡ round start a (run (m a) (start a) p xs) (λ a′ q. run (loop start m) (a′, start a′) q (drop q (replicate p 0 ++ xs)))
   lap-run a p xs =
       let z : List ℕ = replicate p 0 in
       let d : drop p (z ++ xs) ≡ xs = drop-at z xs p (length-replicate p 0) in
       rw d at (run-loop start m fresh a (start a) (z ++ xs) p)
 
-  onto : (a a′ : A) (p : ℕ) (w rest : List ℕ) → run (m a) (start a) p (w ++ rest) ≡ gave (again a′) (p + length w) → run (loop start m) (a, start a) p (w ++ rest) ≡ run (loop start m) (a′, start a′) (p + length w) rest
+  pub onto : (a a′ : A) (p : ℕ) (w rest : List ℕ) → run (m a) (start a) p (w ++ rest) ≡ gave (again a′) (p + length w) → run (loop start m) (a, start a) p (w ++ rest) ≡ run (loop start m) (a′, start a′) (p + length w) rest
   onto a a′ p w rest e =
       let z : List ℕ = replicate p 0 in
       let k : drop (p + length w) (z ++ (w ++ rest)) ≡ rest = rw (← append-assoc z w rest) (drop-at (z ++ w) rest (p + length w) (length-append z w ∙ rw length-replicate)) in

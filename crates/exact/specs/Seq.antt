@@ -23,14 +23,14 @@ pub record Both {A B : Type 0} (G : Relation A) (H : A → Relation B) (p : ℕ)
 
 module _ {S A T B F : Type 0} (m : Step S A F) (start : A → T) (n : A → Step T B F) (s : S) where
   -- the run of both from a place p, whatever stands before it
-  both : (p : ℕ) (xs : List ℕ) → run (seq m start n) (first s) p xs ≡ bind (run m s p xs) (λ a q. run (n a) (start a) q (drop q (replicate p 0 ++ xs)))
+  pub both : (p : ℕ) (xs : List ℕ) → run (seq m start n) (first s) p xs ≡ bind (run m s p xs) (λ a q. run (n a) (start a) q (drop q (replicate p 0 ++ xs)))
   both p xs =
       let z : List ℕ = replicate p 0 in
       let d : drop p (z ++ xs) ≡ xs = drop-at z xs p (length-replicate p 0) in
       rw d at (run-seq m start n s (z ++ xs) p)
 
   -- where the first machine answers, the second goes on with the rest
-  onto : (p : ℕ) (w rest : List ℕ) (a : A) → run m s p (w ++ rest) ≡ gave a (p + length w) → run (seq m start n) (first s) p (w ++ rest) ≡ ran (second a) (run (n a) (start a) (p + length w) rest)
+  pub onto : (p : ℕ) (w rest : List ℕ) (a : A) → run m s p (w ++ rest) ≡ gave a (p + length w) → run (seq m start n) (first s) p (w ++ rest) ≡ ran (second a) (run (n a) (start a) (p + length w) rest)
   onto p w rest a e =
       let z : List ℕ = replicate p 0 in
       let k : drop (p + length w) (z ++ (w ++ rest)) ≡ rest = rw (← append-assoc z w rest) (drop-at (z ++ w) rest (p + length w) (length-append z w ∙ rw length-replicate)) in

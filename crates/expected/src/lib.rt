@@ -50,6 +50,8 @@ pub enum InHeader {
     // behind such a blank
     Colon,
     Value,
+    // where a line that is no header is passed over
+    NoNul,
     // where the slots are full
     NoMore,
 }
@@ -194,6 +196,11 @@ fn in_header(page: &mut Page, at: usize, place: InHeader) -> usize {
             page,
             at,
             b"more of the value, with no control byte but the tab, or the line's end, CR LF (shown as \\r\\n)\n",
+        ),
+        InHeader::NoNul => put(
+            page,
+            at,
+            b"any byte but NUL (shown as \\x00), since --ignore-invalid-headers passes over no line with one in it\n",
         ),
         InHeader::NoMore => put(
             page,

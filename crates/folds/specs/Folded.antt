@@ -78,7 +78,7 @@ valueLines r xs at = reads (linesStep r) fresh xs at
 
 -- the default with or without that rule
 abbrev pub multilineRules : Bool → Rules
-multilineRules m = changed true false false false false m
+multilineRules m = changed true false false false false m false
 
 -- no line leaves its first byte to the next
 module _ (a a′ : Piece) (p b : ℕ) where

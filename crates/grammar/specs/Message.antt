@@ -5,7 +5,7 @@ use Prim.Native.Nat.{ℕ, _+_, _-_, _*_}
 use mathlib.Core.Path.{_≡_}
 use mathlib.Core.List.{List, [], _∷_, _++_}
 use mathlib.Core.Bool.{Bool, true, false}
-use Rattle.octets.specs.Grammar.{Range, DIGIT, VCHAR, obs-text, field-vchar, blank, text}
+use Rattle.octets.specs.Grammar.{Range, DIGIT, VCHAR, obs-text, field-vchar, tchar, blank, text}
 use Rattle.utf8.specs.Grammar.{UTF8-octets}
 use Rattle.rules.specs.Rules.{Rules}
 use Rattle.grammar.specs.Rows.{Many, Some}
@@ -140,19 +140,46 @@ pub data value-lines (r : Rules) : List ℕ → Type 0 where
 pub data field-line (r : Rules) : List ℕ → Field → Type 0 where
   line : {n s o v t : List ℕ} → field-name n → behind-name r s → around-value r o → value-lines r v → around-value r t → field-line r (n ++ s ++ colon ++ o ++ v ++ t) (record { name = n; value = v })
 
--- 2.1: *( field-line CRLF ) CRLF
-pub data header-block (r : Rules) : List ℕ → List Field → Type 0 where
-  end : {e : List ℕ} → line-end r e → header-block r e []
-  field : {w e b : List ℕ} {f : Field} {fs : List Field} → field-line r w f → line-end r e → header-block r b fs → header-block r (w ++ e ++ b) (f ∷ fs)
+-- 2.2: nothing before the first field, or before what ends a head without fields; blanks there, for which a recipient refuses the message or
+-- passes over the line. Behind a field nothing stands before a line
+pub data before-first-name (r : Rules) : (first : Bool) → List ℕ → Type 0 where
+  nothing : {first : Bool} → before-first-name r first []
+  blanks : {w : List ℕ} → r .space-before-first-name ≡ true → Some blank w → before-first-name r true w
 
--- 2.2: nothing between a start line and what follows it; blanks there, for which a recipient refuses the message or passes over the line
-pub data before-first-name (r : Rules) : List ℕ → Type 0 where
-  nothing : before-first-name r []
-  blanks : {w : List ℕ} → r .space-before-first-name ≡ true → Some blank w → before-first-name r w
+-- RFC 9110, 5.5: any byte but CR, LF and NUL, which are dangerous in what is passed over too
+pub record ignorable (b : ℕ) : Type 0 where
+  pub no-nul : b ≡ 0x00 → ⊥
+  pub no-cr : b ≡ 0x0D → ⊥
+  pub no-lf : b ≡ 0x0A → ⊥
+
+-- 5.1: where a name ends, and the blanks s behind it, the next byte is no colon, and neither goes on with the name nor with the blanks
+abbrev pub no-colon-next : Rules → (s u : List ℕ) → Type 0
+no-colon-next r s u = (c : ℕ) (v : List ℕ) → u ≡ c ∷ v → (c ≡ 0x3A → ⊥) × (s ≡ [] → tchar c → ⊥) × (r .spaces-after-name ≡ true → blank c → ⊥)
+
+-- 5: a line that is no field-line, which a recipient refuses, and a setting passes over to its end: its first byte begins no name; behind its name
+-- stands no colon; or a byte of it, on its first line or on one that goes on with it, can't stand in a value
+pub data ignored-line (r : Rules) : List ℕ → Type 0 where
+  no-name : {c : ℕ} {u e : List ℕ} → (tchar c → ⊥) → ignorable c → Many ignorable u → line-end r e → ignored-line r ((c ∷ u) ++ e)
+  no-colon : {n s u e : List ℕ} → field-name n → behind-name r s → no-colon-next r s u → Many ignorable u → line-end r e → ignored-line r (n ++ s ++ (u ++ e))
+  no-value : {n s m u e : List ℕ} {c : ℕ} → field-name n → behind-name r s → within-value r m → (text c → ⊥) → ignorable c → Many ignorable u → line-end r e → ignored-line r (n ++ s ++ colon ++ m ++ ((c ∷ u) ++ e))
+
+-- 2.2: where blanks may stand before a line, all of those before it do, and none is of the line
+abbrev pub no-blank-left : Rules → Bool → List ℕ → Type 0
+no-blank-left r first w = r .space-before-first-name ≡ true → first ≡ true → (c : ℕ) (u : List ℕ) → w ≡ c ∷ u → blank c → ⊥
+
+-- 5.2: where folds are allowed a line that begins with a blank goes on with the field before it
+abbrev pub no-fold-left : Rules → List ℕ → Type 0
+no-fold-left r w = r .multiline-headers ≡ true → (c : ℕ) (u : List ℕ) → w ≡ c ∷ u → blank c → ⊥
+
+-- 2.1: *( field-line CRLF ) CRLF, from the first field on or behind it, and among them the lines that are passed over
+pub data header-block (r : Rules) : (first : Bool) → List ℕ → List Field → Type 0 where
+  end : {first : Bool} {s e : List ℕ} → before-first-name r first s → line-end r e → header-block r first (s ++ e) []
+  field : {first : Bool} {s w e b : List ℕ} {f : Field} {fs : List Field} → before-first-name r first s → field-line r w f → line-end r e → no-fold-left r b → header-block r false b fs → header-block r first (s ++ (w ++ e ++ b)) (f ∷ fs)
+  ignored : {first : Bool} {s w b : List ℕ} {fs : List Field} → r .ignore-invalid-headers ≡ true → before-first-name r first s → ignored-line r w → no-blank-left r first w → header-block r first b fs → header-block r first (s ++ (w ++ b)) fs
 
 -- 2.1: HTTP-message without its body: start-line CRLF *( field-line CRLF ) CRLF, whatever the start line is
 pub data head (r : Rules) {L : Type 0} (start-line : List ℕ → L → Type 0) : List ℕ → L → List Field → Type 0 where
-  message : {e w c s b : List ℕ} {l : L} {fs : List Field} → empty-lines r e → start-line w l → line-end r c → before-first-name r s → header-block r b fs → head r start-line (e ++ w ++ c ++ s ++ b) l fs
+  message : {e w c b : List ℕ} {l : L} {fs : List Field} → empty-lines r e → start-line w l → line-end r c → header-block r true b fs → head r start-line (e ++ w ++ c ++ b) l fs
 
 -- 2.1: the head of a request, what its start line says, and its fields
 abbrev pub request-head : Rules → List ℕ → RequestLine → List Field → Type 0

@@ -32,7 +32,7 @@ pub fn asked() -> Call {
 
 // The arguments from the first that is no setting on.
 fn asked_behind(at: usize, settings: Settings) -> Call
-    requires { ⌜ at ≤ 7 ⌝ }
+    requires { ⌜ at ≤ 8 ⌝ }
 {
     if is(at, b"--plain") {
         return asked_plain(at + 1, settings);
@@ -54,7 +54,7 @@ fn asked_behind(at: usize, settings: Settings) -> Call
 }
 
 fn asked_plain(at: usize, settings: Settings) -> Call
-    requires { ⌜ at ≤ 8 ⌝ }
+    requires { ⌜ at ≤ 9 ⌝ }
 {
     let word = kind_at(at);
     match word {
@@ -104,7 +104,9 @@ fn with_file(kind: Kind, mode: Mode, settings: Settings, at: usize) -> Call {
     let of_responses = settings.spaces_in_status_line
         | settings.spaces_after_name
         | settings.multiline_headers;
-    let of_both = settings.space_before_first_name;
+    let of_both = settings.space_before_first_name
+        | settings.ignore_invalid_headers_in_requests
+        | settings.ignore_invalid_headers_in_responses;
     match kind {
         Kind::Request => {
             if of_responses {
@@ -188,6 +190,7 @@ settings, each for the messages that it names and refused with others
   --space-before-first-name  requests and responses: blanks may stand before the first header's name
   --spaces-after-name        responses: blanks may stand between a header's name and its colon
   --multiline-headers        responses: a line that begins with a blank goes on with the value before it
+  --ignore-invalid-headers   requests and responses: a line that is no header is passed over
 ",
     );
     Call::Refused

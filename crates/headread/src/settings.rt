@@ -3,7 +3,7 @@ ghost use Prim.Native.Nat.{_≤_};
 use rules::Settings;
 
 // How many settings there are.
-const SETTINGS: usize = 6;
+const SETTINGS: usize = 7;
 
 enum Setting {
     AsciiTargets,
@@ -12,6 +12,7 @@ enum Setting {
     SpaceBeforeFirstName,
     SpacesAfterName,
     MultilineHeaders,
+    IgnoreInvalidHeaders,
     Other,
 }
 
@@ -22,7 +23,7 @@ pub struct Taken {
 }
 
 pub fn first() -> Taken
-    ensures { λ r. ⌜ r .next ≤ 7 ⌝ }
+    ensures { λ r. ⌜ r .next ≤ 8 ⌝ }
 {
     let mut settings = Settings {
         ascii_targets: false,
@@ -31,6 +32,8 @@ pub fn first() -> Taken
         space_before_first_name: false,
         spaces_after_name: false,
         multiline_headers: false,
+        ignore_invalid_headers_in_requests: false,
+        ignore_invalid_headers_in_responses: false,
     };
     let mut next = 1;
     while next <= SETTINGS {
@@ -42,6 +45,11 @@ pub fn first() -> Taken
             Setting::SpaceBeforeFirstName => settings.space_before_first_name = true,
             Setting::SpacesAfterName => settings.spaces_after_name = true,
             Setting::MultilineHeaders => settings.multiline_headers = true,
+            // one flag for both, since the call names what is read
+            Setting::IgnoreInvalidHeaders => {
+                settings.ignore_invalid_headers_in_requests = true;
+                settings.ignore_invalid_headers_in_responses = true;
+            }
             Setting::Other => return Taken { settings, next },
         }
         next += 1;
@@ -72,7 +80,10 @@ fn named(word: &[u8]) -> Setting {
         return Setting::SpacesAfterName;
     }
     if check::same(word, b"--multiline-headers") {
-        Setting::MultilineHeaders
+        return Setting::MultilineHeaders;
+    }
+    if check::same(word, b"--ignore-invalid-headers") {
+        Setting::IgnoreInvalidHeaders
     } else {
         Setting::Other
     }

@@ -27,17 +27,17 @@ module _ {a b : Settings} {s old : List ℕ} {r : ℕ} {out new : List ℕ} (e :
 -- with the bits clear that concern a request, whatever the others are, the function for C tells the answer under the default, as it did before
 -- there were settings; so of a response
 module _ (bits : ℕ) {s old : List ℕ} {r : ℕ} {out new : List ℕ} where
-  pub request-clear : (bits / 4) % 2 ≡ 0 → (bits / 16) % 2 ≡ 0 → (bits / 128) % 2 ≡ 0 → RequestExport s old r out new bits → RequestBy default s old r out new
-  request-clear a b c x = subst (λ y. RequestBy y s old r out new) same x
+  pub request-clear : (bits / 4) % 2 ≡ 0 → (bits / 16) % 2 ≡ 0 → (bits / 64) % 2 ≡ 0 → (bits / 128) % 2 ≡ 0 → RequestExport s old r out new bits → RequestBy default s old r out new
+  request-clear a b c d x = subst (λ y. RequestBy y s old r out new) same x
     where
       same : requestRules (settingsOf bits) ≡ default
-      same = rw (a, b, c)
+      same = rw (a, b, c, d)
 
-  pub response-clear : bits % 2 ≡ 0 → (bits / 2) % 2 ≡ 0 → (bits / 8) % 2 ≡ 0 → (bits / 16) % 2 ≡ 0 → ResponseExport s old r out new bits → ResponseBy default s old r out new
-  response-clear a b c d x = subst (λ y. ResponseBy y s old r out new) same x
+  pub response-clear : bits % 2 ≡ 0 → (bits / 2) % 2 ≡ 0 → (bits / 8) % 2 ≡ 0 → (bits / 16) % 2 ≡ 0 → (bits / 32) % 2 ≡ 0 → ResponseExport s old r out new bits → ResponseBy default s old r out new
+  response-clear a b c d e x = subst (λ y. ResponseBy y s old r out new) same x
     where
       same : responseRules (settingsOf bits) ≡ default
-      same = rw (a, b, c, d)
+      same = rw (a, b, c, d, e)
 
 -- a chunk size line: z is what the arm took it for
 pub size-told : {s : List ℕ} {size z : ChunkSize} {r : ℕ} {out : List ℕ} → sizeOf size ≡ chunk default s → ChunkPromise s size → SizeFaultPromise s size → size ≡ z → r ≡ sizeKind z → out ≡ sizeNumbers z → SizeExport s r out

@@ -3,15 +3,12 @@
 use Prim.Native.Nat.{ℕ}
 use mathlib.Core.Path.{_≡_, refl, sym, ap, _∙_}
 use mathlib.Core.List.{List, []}
-use mathlib.Core.Bool.{Bool}
 use lib.ListN.{length, drop}
 use Rattle.reader.specs.Machine.{Step, runAt}
 use Rattle.reader.specs.Judged.{pass, judged}
 use Rattle.reader.specs.Seq.{Then, first, seq}
-use Rattle.reader.specs.Skip.{Skipped}
 use Rattle.reader.specs.Answer.{Answer, got, short, bad, answer, retold, answer-judged, and, either, answer-seq, lapwise}
-use Rattle.reader.specs.Branch.{fresh}
-use Rattle.gaps.specs.Gap.{Behind, blanksIf, behindGap, gapKnown, answer-behind}
+use Rattle.gaps.specs.Gap.{Behind}
 use Rattle.parts.specs.declared.Fault.{Fault}
 use Rattle.parts.specs.declared.Passed.{Passed}
 use Rattle.parts.specs.declared.Passed.the-variants as passes
@@ -24,25 +21,11 @@ use Rattle.blocks.specs.Slots.{filled, filled-none}
 use Rattle.blocks.specs.Block.{Blocks, blockStep, block}
 use Rattle.blocks.specs.Block as blocks
 
--- the blanks that a setting lets stand before a block, and the block
-abbrev pub Section : Type 0
-Section = Behind (List Header × LineState)
+abbrev pub BlockState : Type 0
+BlockState = List Header × Behind LineState
 
-abbrev pub blanksBefore : Rules → ℕ → Bool
-blanksBefore r = blanksIf (r .space-before-first-name)
-
-abbrev pub sectionStep : Rules → ℕ → Step Section (List Header) (Fault × List Header)
-sectionStep r n = behindGap (blanksBefore r) (blockStep r n) ([], fresh)
-
-abbrev pub sectionKnown : Section → List Header
-sectionKnown = gapKnown (lapwise (λ hs _. hs)) ([], fresh)
-
-abbrev pub section : Rules → ℕ → List ℕ → ℕ → Blocks
-section r n xs at = answer sectionKnown (runAt (sectionStep r n) (first tt) xs at)
-
--- it is the block from where the blanks end
-pub section-block : (r : Rules) (n : ℕ) {xs : List ℕ} {at q : ℕ} → Skipped (blanksBefore r) xs at q → section r n xs at ≡ block r n [] xs q
-section-block r n k = answer-behind k (lapwise (λ hs _. hs)) (blockStep r n) ([], fresh)
+abbrev pub blockKnown : BlockState → List Header
+blockKnown = lapwise (λ hs _. hs)
 
 -- what is known of a head: of its start line, and the headers that were given
 abbrev pub Known : Type 0 → Type 0
@@ -53,14 +36,14 @@ Heads K = Answer (Known K) (Known K) (Fault × Known K)
 
 module _ {K S : Type 0} (r : Rules) (n : ℕ) (lineStep : Step S K (Fault × K)) (lineKnown : S → K) (start : S) where
   -- the block, behind a start line that told k
-  abbrev pub sectionOn : K → Step Section (Known K) (Fault × Known K)
-  sectionOn k = judged (λ hs. pass (k, hs)) (λ x. (x .0, (k, x .1))) (sectionStep r n)
+  abbrev pub blockOn : K → Step BlockState (Known K) (Fault × Known K)
+  blockOn k = judged (λ hs. pass (k, hs)) (λ x. (x .0, (k, x .1))) (blockStep r n)
 
-  abbrev pub headStep : Step (Then S K Section) (Known K) (Fault × Known K)
-  headStep = seq (judged pass (λ x. (x .0, (x .1, []))) lineStep) (λ _. first tt) sectionOn
+  abbrev pub headStep : Step (Then S K BlockState) (Known K) (Fault × Known K)
+  headStep = seq (judged pass (λ x. (x .0, (x .1, []))) lineStep) (λ _. ([], first tt)) blockOn
 
-  abbrev pub headKnown : Then S K Section → Known K
-  headKnown = either (λ s. (lineKnown s, [])) (λ k c. (k, sectionKnown c))
+  abbrev pub headKnown : Then S K BlockState → Known K
+  headKnown = either (λ s. (lineKnown s, [])) (λ k c. (k, blockKnown c))
 
   -- what reading a head with n slots answers
   abbrev pub head : List ℕ → Heads K
@@ -90,19 +73,19 @@ module _ {K : Type 0} where
   told-headed (bad x) next = refl
 
 module _ {K S : Type 0} (r : Rules) (n : ℕ) (lineStep : Step S K (Fault × K)) (lineKnown : S → K) (start : S) (xs : List ℕ) where
-  section-part : (k : K) (q : ℕ) → answer (λ c. (k, sectionKnown c)) (runAt (sectionOn r n lineStep lineKnown start k) (first tt) xs q) ≡ over k (section r n xs q)
-  section-part k q = answer-judged (λ hs. (k, hs)) (λ hs. pass (k, hs)) (λ x. (x .0, (k, x .1))) sectionKnown (sectionStep r n) (drop q xs) (first tt) q ∙ told-over k (section r n xs q)
+  block-part : (k : K) (q : ℕ) → answer (λ c. (k, blockKnown c)) (runAt (blockOn r n lineStep lineKnown start k) ([], first tt) xs q) ≡ over k (block r n [] xs q)
+  block-part k q = answer-judged (λ hs. (k, hs)) (λ hs. pass (k, hs)) (λ x. (x .0, (k, x .1))) blockKnown (blockStep r n) (drop q xs) ([], first tt) q ∙ told-over k (block r n [] xs q)
 
   -- a head by its two parts
-  pub head-parts : head r n lineStep lineKnown start xs ≡ headed (answer lineKnown (runAt lineStep start xs 0)) (λ k q. over k (section r n xs q))
+  pub head-parts : head r n lineStep lineKnown start xs ≡ headed (answer lineKnown (runAt lineStep start xs 0)) (λ k q. over k (block r n [] xs q))
   head-parts =
-      answer-seq (λ s. (lineKnown s, [])) (λ k c. (k, sectionKnown c)) (judged pass (λ x. (x .0, (x .1, []))) lineStep) (λ _. first tt) (sectionOn r n lineStep lineKnown start) start xs 0
-      ∙ ap (λ a. and a (λ k q. answer (λ c. (k, sectionKnown c)) (runAt (sectionOn r n lineStep lineKnown start k) (first tt) xs q))) (answer-judged (λ k. (k, [])) pass (λ x. (x .0, (x .1, []))) lineKnown lineStep (drop 0 xs) start 0)
+      answer-seq (λ s. (lineKnown s, [])) (λ k c. (k, blockKnown c)) (judged pass (λ x. (x .0, (x .1, []))) lineStep) (λ _. ([], first tt)) (blockOn r n lineStep lineKnown start) start xs 0
+      ∙ ap (λ a. and a (λ k q. answer (λ c. (k, blockKnown c)) (runAt (blockOn r n lineStep lineKnown start k) ([], first tt) xs q))) (answer-judged (λ k. (k, [])) pass (λ x. (x .0, (x .1, []))) lineKnown lineStep (drop 0 xs) start 0)
       ∙ told-headed (answer lineKnown (runAt lineStep start xs 0)) _
       ∙ headed-same (answer lineKnown (runAt lineStep start xs 0))
     where
-      headed-same : (a : Answer K K (Fault × K)) → headed a (λ k q. answer (λ c. (k, sectionKnown c)) (runAt (sectionOn r n lineStep lineKnown start k) (first tt) xs q)) ≡ headed a (λ k q. over k (section r n xs q))
-      headed-same (got k q) = section-part k q
+      headed-same : (a : Answer K K (Fault × K)) → headed a (λ k q. answer (λ c. (k, blockKnown c)) (runAt (blockOn r n lineStep lineKnown start k) ([], first tt) xs q)) ≡ headed a (λ k q. over k (block r n [] xs q))
+      headed-same (got k q) = block-part k q
       headed-same (short k) = refl
       headed-same (bad x) = refl
 
@@ -136,10 +119,6 @@ over-tell k (passes.Bad e) hs = refl
 -- the block's answer behind a start line that told k
 pub told-block : {K : Type 0} (k : K) {a : Blocks} {b : Block} {end : Passed} {count : ℕ} {old new : List ℕ} → blocks.Told a b old new → end ≡ b .end → count ≡ b .count → Told (over k a) end k count old new
 told-block k {a} {b} t x y = tells (blocks.given a) (rw (x, over-tell k (b .end) (blocks.given a), t .answer)) (y ∙ t .count) (t .slots)
-
--- a section's answer, from the block's where the blanks before it end
-pub told-section : {K : Type 0} (r : Rules) (n : ℕ) (k : K) {xs : List ℕ} {at q : ℕ} → Skipped (blanksBefore r) xs at q → {end : Passed} {count : ℕ} {old new : List ℕ} → Told (over k (block r n [] xs q)) end k count old new → Told (over k (section r n xs at)) end k count old new
-told-section r n k g t = rw (section-block r n g) t
 
 -- the ways of a head, by how its start line ended
 module _ {K : Type 0} {line : K} {e : Passed} {a : Answer K K (Fault × K)} (h : tell e line ≡ a) where

@@ -37,14 +37,15 @@ pub fn request(s: &[u8], slots: &mut [usize], settings: Settings) -> RequestHead
     let end = read.end;
     match end {
         Passed::At(next) => {
-            let start = gaps::blanks(s, next, settings.space_before_first_name);
             let block = blocks::header_block(
                 s,
-                start,
+                next,
                 slots,
                 LineSettings {
+                    space_before_first_name: settings.space_before_first_name,
                     spaces_after_name: false,
                     multiline_headers: false,
+                    ignore_invalid_headers: settings.ignore_invalid_headers_in_requests,
                 },
             );
             let end = block.end;
@@ -75,14 +76,15 @@ pub fn response(s: &[u8], slots: &mut [usize], settings: Settings) -> ResponseHe
     let end = read.end;
     match end {
         Passed::At(next) => {
-            let first = gaps::blanks(s, next, settings.space_before_first_name);
             let rest = blocks::header_block(
                 s,
-                first,
+                next,
                 slots,
                 LineSettings {
+                    space_before_first_name: settings.space_before_first_name,
                     spaces_after_name: settings.spaces_after_name,
                     multiline_headers: settings.multiline_headers,
+                    ignore_invalid_headers: settings.ignore_invalid_headers_in_responses,
                 },
             );
             let end = rest.end;
@@ -113,8 +115,10 @@ pub fn headers(s: &[u8], slots: &mut [usize]) -> Block
         0,
         slots,
         LineSettings {
+            space_before_first_name: false,
             spaces_after_name: false,
             multiline_headers: false,
+            ignore_invalid_headers: false,
         },
     )
 }

@@ -67,14 +67,14 @@ end-longer (lf h) = omega arith
 pub line-longer : {r : Rules} {p : ℕ} {w : List ℕ} {v : Piece} {rest : List ℕ} → LineValued r p w v rest → 1 ≤ length w
 line-longer {w = w} K = omega (arith, ap length (K .whole) ∙ length-append (K .w₁) (K .w₂), end-longer (K .right .holds))
 
-lap-longer : {r : Rules} (a : Piece) (p : ℕ) (w : List ℕ) (a′ : Piece) (rest : List ℕ) → LapValued r a p w (again a′) rest → 1 ≤ length w
+pub lap-longer : {r : Rules} (a : Piece) (p : ℕ) (w : List ℕ) (a′ : Piece) (rest : List ℕ) → LapValued r a p w (again a′) rest → 1 ≤ length w
 lap-longer a p w a′ rest K = omega (arith, ap length (K .whole) ∙ length-append (K .w₁) (K .w₂), line-longer (K .left))
 
 module _ (r : Rules) where
-  exact-value-line : Exact (valueLineStep r) (first blanks) (LineValued r)
+  pub exact-value-line : Exact (valueLineStep r) (first blanks) (LineValued r)
   exact-value-line = exact-seq valueStep (λ v. begin) (λ v. judged (λ _. pass v) (λ e. e) (lineEndStep r HeaderValue)) blanks exact-value (λ v. exact-judged (λ _. pass v) (λ e. e) (lineEndStep r HeaderValue) (exact-line-end r HeaderValue))
 
-  exact-lap : (a : Piece) → Exact (lapStep r a) (first (first blanks)) (LapValued r a)
+  pub exact-lap : (a : Piece) → Exact (lapStep r a) (first (first blanks)) (LapValued r a)
   exact-lap a = exact-seq (valueLineStep r) (λ v. tt) (λ v. judged (λ t. pass (turn (joined a v) t)) (λ e. e) nextStep) (first blanks) exact-value-line (λ v. exact-judged (λ t. pass (turn (joined a v) t)) (λ e. e) nextStep exact-next)
 
   pub exact-lines : Exact (linesStep r) fresh (Lines r)

@@ -12,3 +12,4 @@ pub mod Value
 pub mod Folded
 pub mod Target
 pub mod Reason
+pub mod Wrong

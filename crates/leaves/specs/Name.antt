@@ -73,7 +73,7 @@ complete-token p w rest a K = by (K .kind) (K .place)
         let n : p + 1 + length v ≡ p + suc (length v) = omega arith in
         rw h (over tokenStep (inside p) (λ c t q. rw t) m (p + 1) rest ∙ rw (K .stops .whole, K .stops .stops, n) (ap (λ y. gave y (p + suc (length v))) (sym e)))
 
-exact-token : Exact tokenStep none Tokened
+pub exact-token : Exact tokenStep none Tokened
 exact-token = record { sound = sound-token; complete = complete-token }
 
 -- the name, and up to its colon

@@ -1,4 +1,5 @@
--- The grammar as it is with none of the five settings for spaces and folds: single spaces, a colon right behind a name, and a value in one line.
+-- The grammar as it is with none of the five settings for spaces and folds, and no line passed over: single spaces, a colon right behind a name,
+-- a value in one line, and nothing but field lines.
 -- Assumes nothing.
 use Prim.Native.Nat.{ℕ}
 use mathlib.Core.Path.{_≡_}

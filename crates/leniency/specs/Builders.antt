@@ -10,7 +10,7 @@ use Rattle.reader.specs.Tests.{both-true}
 use Rattle.octets.specs.Grammar as bytes
 use Rattle.octets.specs.Class.{within, isToken, isTarget, isValue}
 use Rattle.octets.specs.Ties.{in-range, target-is-field-vchar}
-use Rattle.rules.specs.Rules.{Rules}
+use Rattle.rules.specs.Rules.{Rules, strict}
 use Rattle.grammar.specs.Rows.{Many, none, more, Some, some}
 use Rattle.grammar.specs.Fields.{token, field-value, Field}
 use Rattle.grammar.specs.Message.{space, colon, CRLF, crlf, request-target, status-code, ascii-text, header-block, request-head, response-head}
@@ -112,14 +112,15 @@ worded-first [] h u e = absurd (false≢true h)
 worded-first (b ∷ w) h u e = let same : b ≡ 0x20 = cc in omega (arith, in-range 0x21 0x7E b (both-true (within 0x21 0x7E b) (all printable w) h .0) .low, same)
 
 -- the lines of a head
-pub the-end : {r : Rules} → header-block r CRLF []
-the-end = grammar.header-block.end crlf
+pub the-end : {r : Rules} {first : Bool} → header-block r first CRLF []
+the-end = grammar.header-block.end grammar.before-first-name.nothing crlf
 
-pub a-field : {r : Rules} (n v : String) → some-all isToken (ascii n) ≡ true → solid (ascii v) ≡ true → {b : List ℕ} {fs : List Field} → header-block r b fs → header-block r (ascii n ++ [] ++ colon ++ space ++ ascii v ++ [] ++ CRLF ++ b) (record { name = ascii n; value = ascii v } ∷ fs)
-a-field n v h k b = grammar.header-block.field (grammar.field-line.line (a-token n h) grammar.behind-name.nothing (grammar.around-value.more (bytes.blank.space refl) grammar.around-value.none) (grammar.value-lines.one (a-value v k)) grammar.around-value.none) crlf b
+-- under strict, since where folds are allowed what follows a field begins with no blank
+pub a-field : (n v : String) → some-all isToken (ascii n) ≡ true → solid (ascii v) ≡ true → {first : Bool} {b : List ℕ} {fs : List Field} → header-block strict false b fs → header-block strict first (ascii n ++ [] ++ colon ++ space ++ ascii v ++ [] ++ CRLF ++ b) (record { name = ascii n; value = ascii v } ∷ fs)
+a-field n v h k b = grammar.header-block.field grammar.before-first-name.nothing (grammar.field-line.line (a-token n h) grammar.behind-name.nothing (grammar.around-value.more (bytes.blank.space refl) grammar.around-value.none) (grammar.value-lines.one (a-value v k)) grammar.around-value.none) crlf (λ t. absurd (false≢true t)) b
 
-pub a-request : {r : Rules} (m t : String) → some-all isToken (ascii m) ≡ true → some-all (within 0x21 0x7E) (ascii t) ≡ true → {b : List ℕ} {fs : List Field} → header-block r b fs → request-head r (ascii m ++ space ++ ascii t ++ space ++ ascii "HTTP/1.1" ++ CRLF ++ [] ++ b) (record { method = ascii m; target = ascii t; version = record { major = 1; minor = 1 } }) fs
-a-request m t h k b = grammar.head.message grammar.empty-lines.none (grammar.request-line.line (a-token m h) grammar.delimiter.one (a-target t k) grammar.delimiter.one grammar.one-one) crlf grammar.before-first-name.nothing b
+pub a-request : {r : Rules} (m t : String) → some-all isToken (ascii m) ≡ true → some-all (within 0x21 0x7E) (ascii t) ≡ true → {b : List ℕ} {fs : List Field} → header-block r true b fs → request-head r (ascii m ++ space ++ ascii t ++ space ++ ascii "HTTP/1.1" ++ CRLF ++ b) (record { method = ascii m; target = ascii t; version = record { major = 1; minor = 1 } }) fs
+a-request m t h k b = grammar.head.message grammar.empty-lines.none (grammar.request-line.line (a-token m h) grammar.delimiter.one (a-target t k) grammar.delimiter.one grammar.one-one) crlf b
 
 -- three digits, of which the first is from 1 to 5
 abbrev pub digits : ℕ → ℕ → ℕ → Bool
@@ -131,5 +132,5 @@ a-code x y z h =
     let l = both-true (within 0x31 0x35 (0x30 + x)) (within 0x30 0x39 (0x30 + y)) (k .0) in
     grammar.status-code.class (in-range 0x31 0x35 (0x30 + x) (l .0)) (in-range 0x30 0x39 (0x30 + y) (l .1)) (in-range 0x30 0x39 (0x30 + z) (k .1))
 
-pub a-response : {r : Rules} (x y z : ℕ) (w : String) → digits x y z ≡ true → worded (ascii w) ≡ true → {b : List ℕ} {fs : List Field} → header-block r b fs → response-head r (ascii "HTTP/1.1" ++ space ++ ((0x30 + x) ∷ (0x30 + y) ∷ (0x30 + z) ∷ []) ++ space ++ ascii w ++ CRLF ++ [] ++ b) (record { version = record { major = 1; minor = 1 }; code = (0x30 + x - 0x30) * 100 + (0x30 + y - 0x30) * 10 + (0x30 + z - 0x30); reason = ascii w }) fs
-a-response x y z w h k b = grammar.head.message grammar.empty-lines.none (grammar.status-line.reason grammar.one-one grammar.delimiter.one (a-code x y z h) grammar.delimiter.one (grammar.reason-phrase.ascii (worded-text (ascii w) k)) (λ t. worded-first (ascii w) k)) crlf grammar.before-first-name.nothing b
+pub a-response : {r : Rules} (x y z : ℕ) (w : String) → digits x y z ≡ true → worded (ascii w) ≡ true → {b : List ℕ} {fs : List Field} → header-block r true b fs → response-head r (ascii "HTTP/1.1" ++ space ++ ((0x30 + x) ∷ (0x30 + y) ∷ (0x30 + z) ∷ []) ++ space ++ ascii w ++ CRLF ++ b) (record { version = record { major = 1; minor = 1 }; code = (0x30 + x - 0x30) * 100 + (0x30 + y - 0x30) * 10 + (0x30 + z - 0x30); reason = ascii w }) fs
+a-response x y z w h k b = grammar.head.message grammar.empty-lines.none (grammar.status-line.reason grammar.one-one grammar.delimiter.one (a-code x y z h) grammar.delimiter.one (grammar.reason-phrase.ascii (worded-text (ascii w) k)) (λ t. worded-first (ascii w) k)) crlf b

@@ -94,8 +94,8 @@ pub other-version : request-head strict (ascii "GET / HTTP/2.3\r\nHost:\r\n\r\n"
 unfolding isToken isDigit within among
 other-version =
     grammar.head.message grammar.empty-lines.none
-    (grammar.request-line.line (a-token "GET" refl) grammar.delimiter.one (a-target "/" refl) grammar.delimiter.one (grammar.HTTP-version.other {a = 0x32} {b = 0x33} refl (in-range 0x30 0x39 0x32 refl) (in-range 0x30 0x39 0x33 refl))) grammar.crlf grammar.before-first-name.nothing
-    (grammar.header-block.field (grammar.field-line.line (a-token "Host" refl) grammar.behind-name.nothing grammar.around-value.none (grammar.value-lines.one fields.field-value.none) grammar.around-value.none) grammar.crlf the-end)
+    (grammar.request-line.line (a-token "GET" refl) grammar.delimiter.one (a-target "/" refl) grammar.delimiter.one (grammar.HTTP-version.other {a = 0x32} {b = 0x33} refl (in-range 0x30 0x39 0x32 refl) (in-range 0x30 0x39 0x33 refl))) grammar.crlf
+    (grammar.header-block.field grammar.before-first-name.nothing (grammar.field-line.line (a-token "Host" refl) grammar.behind-name.nothing grammar.around-value.none (grammar.value-lines.one fields.field-value.none) grammar.around-value.none) grammar.crlf (λ t. absurd (false≢true t)) the-end)
 
 -- a reason and a value with bytes from 0x80 on; in the value a tab stands between two of them
 abbrev accents : List ℕ
@@ -105,11 +105,11 @@ pub obsolete-text : response-head strict (ascii "HTTP/1.1 404 " ++ (0xE9 ∷ [])
 unfolding isToken isDigit within among
 obsolete-text =
     grammar.head.message grammar.empty-lines.none
-    (grammar.status-line.reason grammar.one-one grammar.delimiter.one (a-code 4 0 4 refl) grammar.delimiter.one (grammar.reason-phrase.whole refl (some (bytes.text.field (bytes.obsolete (in-range 0x80 0xFF 0xE9 refl))) none)) (λ t. absurd (false≢true t))) grammar.crlf grammar.before-first-name.nothing
-    (grammar.header-block.field
+    (grammar.status-line.reason grammar.one-one grammar.delimiter.one (a-code 4 0 4 refl) grammar.delimiter.one (grammar.reason-phrase.whole refl (some (bytes.text.field (bytes.obsolete (in-range 0x80 0xFF 0xE9 refl))) none)) (λ t. absurd (false≢true t))) grammar.crlf
+    (grammar.header-block.field grammar.before-first-name.nothing
     (grammar.field-line.line (a-token "A" refl) grammar.behind-name.nothing (grammar.around-value.more (bytes.blank.tab refl) grammar.around-value.none)
     (grammar.value-lines.one (fields.field-value.more (fields.field-content.more (bytes.obsolete (in-range 0x80 0xFF 0xE9 refl)) (some (bytes.text.white (bytes.blank.tab refl)) none) (bytes.obsolete (in-range 0x80 0xFF 0xE8 refl))) fields.field-value.none))
-    (grammar.around-value.more (bytes.blank.space refl) grammar.around-value.none)) grammar.crlf the-end)
+    (grammar.around-value.more (bytes.blank.space refl) grammar.around-value.none)) grammar.crlf (λ t. absurd (false≢true t)) the-end)
 
 -- a chunk of five bytes with two extensions: a quoted string with a sharp sign and an escaped quotation mark, and a token among blanks
 pub extensions : chunk-line strict (ascii "5;a=\"b#\\\"c\";d = e\r\n") 5

@@ -1,5 +1,6 @@
 -- With more settings on more is allowed and nothing is lost: a head is then one with the same fields. Of a response this asks that its reason
--- begins with no space, since where several spaces stand before a reason none of them is of it.
+-- begins with no space, since where several spaces stand before a reason none of them is of it; and where lines are passed over it asks that no
+-- setting makes something else of them.
 -- Assumes nothing.
 use Prim.Native.Nat.{ℕ}
 use native.Mathlib.Omega.{arith}
@@ -19,7 +20,7 @@ use Rattle.grammar.specs.Message.{space, Version, HTTP-version, one-zero, one-o
 use Rattle.grammar.specs.Message as grammar
 use Rattle.agreement.specs.Tail.{Tail, line-parts, parts-line}
 use Rattle.agreement.specs.Tail as tails
-use Rattle.leniency.specs.Allows.{LinesAllowed, head-as}
+use Rattle.leniency.specs.Allows.{LinesAllowed, KeptIgnored, head-as}
 
 -- s allows all that r does
 pub record Allowed (r s : Rules) : Type 0 where
@@ -106,11 +107,11 @@ module _ {r s : Rules} (allowed : Allowed r s) where
       let P = line-parts d in
       subst (λ y. status-line s y l) (sym (P .whole)) (parts-line (version-as (allowed .known-versions) (P .version)) (delimiter-as (allowed .spaces-in-status-line) (P .delimits)) (code-as (allowed .any-code) (P .code)) (tail-as kept (P .tail)))
 
-  pub more-requests : {w : List ℕ} {l : RequestLine} {fs : List Field} → request-head r w l fs → request-head s w l fs
-  more-requests h = head-as (allowed .lines) (λ w. request-line-as) h
+  pub more-requests : {w : List ℕ} {l : RequestLine} {fs : List Field} → KeptIgnored r s → request-head r w l fs → request-head s w l fs
+  more-requests lines h = head-as (allowed .lines) lines (λ w. request-line-as) h
 
-  pub more-responses : {w : List ℕ} {l : StatusLine} {fs : List Field} → KeptReason r s (l .reason) → response-head r w l fs → response-head s w l fs
-  more-responses kept h = head-as (allowed .lines) (λ w. status-line-as kept) h
+  pub more-responses : {w : List ℕ} {l : StatusLine} {fs : List Field} → KeptIgnored r s → KeptReason r s (l .reason) → response-head r w l fs → response-head s w l fs
+  more-responses lines kept h = head-as (allowed .lines) lines (λ w. status-line-as kept) h
 
 -- each setting that is on in a is on in b, but for ascii_targets, which allows less
 pub record More (a b : Settings) : Type 0 where
@@ -120,6 +121,8 @@ pub record More (a b : Settings) : Type 0 where
   pub space-before-first-name : a .«space_before_first_name» ≡ true → b .«space_before_first_name» ≡ true
   pub spaces-after-name : a .«spaces_after_name» ≡ true → b .«spaces_after_name» ≡ true
   pub multiline-headers : a .«multiline_headers» ≡ true → b .«multiline_headers» ≡ true
+  pub ignore-invalid-headers-in-requests : a .«ignore_invalid_headers_in_requests» ≡ true → b .«ignore_invalid_headers_in_requests» ≡ true
+  pub ignore-invalid-headers-in-responses : a .«ignore_invalid_headers_in_responses» ≡ true → b .«ignore_invalid_headers_in_responses» ≡ true
 
 off-too : (t u : Bool) → (u ≡ true → t ≡ true) → not t ≡ true → not u ≡ true
 off-too true u f h = absurd (false≢true h)
@@ -127,9 +130,9 @@ off-too false true f h = absurd (false≢true (f refl))
 off-too false false f h = refl
 
 module _ {a b : Settings} (on : More a b) {w : List ℕ} {fs : List Field} where
-  pub request-more : {l : RequestLine} → request-head (requestRules a) w l fs → request-head (requestRules b) w l fs
+  pub request-more : {l : RequestLine} → KeptIgnored (requestRules a) (requestRules b) → request-head (requestRules a) w l fs → request-head (requestRules b) w l fs
   request-more = more-requests (record {
-    lines = record { lf-alone = λ t. t; empty-lines = λ t. t; space-before-first-name = on .space-before-first-name; spaces-after-name = λ t. t; multiline-headers = λ t. t };
+    lines = record { lf-alone = λ t. t; empty-lines = λ t. t; space-before-first-name = on .space-before-first-name; spaces-after-name = λ t. t; multiline-headers = λ t. t; ignore-invalid-headers = on .ignore-invalid-headers-in-requests };
     any-target = off-too (a .«ascii_targets») (b .«ascii_targets») (on .ascii-targets);
     any-code = λ t. t;
     code-ends-line = λ t. t;
@@ -139,9 +142,9 @@ module _ {a b : Settings} (on : More a b) {w : List ℕ} {fs : List Field} where
     obs-reason = refl;
   })
 
-  pub response-more : {l : StatusLine} → (b .«spaces_in_status_line» ≡ true → a .«spaces_in_status_line» ≡ false → NoSpaceFirst (l .reason)) → response-head (responseRules a) w l fs → response-head (responseRules b) w l fs
+  pub response-more : {l : StatusLine} → KeptIgnored (responseRules a) (responseRules b) → (b .«spaces_in_status_line» ≡ true → a .«spaces_in_status_line» ≡ false → NoSpaceFirst (l .reason)) → response-head (responseRules a) w l fs → response-head (responseRules b) w l fs
   response-more = more-responses (record {
-    lines = record { lf-alone = λ t. t; empty-lines = λ t. t; space-before-first-name = on .space-before-first-name; spaces-after-name = on .spaces-after-name; multiline-headers = on .multiline-headers };
+    lines = record { lf-alone = λ t. t; empty-lines = λ t. t; space-before-first-name = on .space-before-first-name; spaces-after-name = on .spaces-after-name; multiline-headers = on .multiline-headers; ignore-invalid-headers = on .ignore-invalid-headers-in-responses };
     any-target = λ t. t;
     any-code = λ t. t;
     code-ends-line = λ t. t;
@@ -150,3 +153,45 @@ module _ {a b : Settings} (on : More a b) {w : List ℕ} {fs : List Field} where
     known-versions = λ t. t;
     obs-reason = refl;
   })
+
+-- the rules r, and lines that are no field line are passed over
+abbrev pub ignoring : Rules → Rules
+ignoring r = record {
+  lf-alone = r .lf-alone;
+  empty-lines = r .empty-lines;
+  any-target = r .any-target;
+  known-versions = r .known-versions;
+  code-ends-line = r .code-ends-line;
+  any-code = r .any-code;
+  obs-reason = r .obs-reason;
+  blank-behind-size = r .blank-behind-size;
+  any-extension = r .any-extension;
+  no-digit = r .no-digit;
+  sixteen-digits = r .sixteen-digits;
+  spaces-in-request-line = r .spaces-in-request-line;
+  spaces-in-status-line = r .spaces-in-status-line;
+  space-before-first-name = r .space-before-first-name;
+  spaces-after-name = r .spaces-after-name;
+  multiline-headers = r .multiline-headers;
+  ignore-invalid-headers = true;
+}
+
+module _ (r : Rules) where
+  with-ignoring : Allowed r (ignoring r)
+  with-ignoring = record {
+    lines = record { lf-alone = λ t. t; empty-lines = λ t. t; space-before-first-name = λ t. t; spaces-after-name = λ t. t; multiline-headers = λ t. t; ignore-invalid-headers = λ t. refl };
+    any-target = λ t. t;
+    any-code = λ t. t;
+    code-ends-line = λ t. t;
+    spaces-in-request-line = λ t. t;
+    spaces-in-status-line = λ t. t;
+    known-versions = λ t. t;
+    obs-reason = refl;
+  }
+
+  same-lines : KeptIgnored r (ignoring r)
+  same-lines t = record { space-before-first-name = λ t. t; spaces-after-name = λ t. t; multiline-headers = λ t. t }
+
+  -- what is a head with the setting off is one with it on, the same bytes with the same fields: the end of a head does not move
+  pub ignoring-moves-nothing : ((w : List ℕ) (l : RequestLine) (fs : List Field) → request-head r w l fs → request-head (ignoring r) w l fs) × ((w : List ℕ) (l : StatusLine) (fs : List Field) → response-head r w l fs → response-head (ignoring r) w l fs)
+  ignoring-moves-nothing = (λ w l fs. more-requests with-ignoring same-lines, λ w l fs. more-responses with-ignoring same-lines (λ on off. absurd (clash on off)))

@@ -1,5 +1,5 @@
--- What each of the five settings for spaces and folds lets stand somewhere does not stand there without it; and with none of them the grammar
--- is what it was before there were settings.
+-- What each of the five settings for spaces and folds lets stand somewhere does not stand there without it; and with none of them, and no line
+-- passed over, the grammar is what it was before there were settings.
 -- Assumes nothing.
 use Prim.Native.Nat.{ℕ}
 use mathlib.Core.Path.{_≡_, refl, sym, subst}
@@ -21,7 +21,7 @@ one-space f grammar.delimiter.one = refl
 one-space f (grammar.delimiter.more t k) = absurd (clash t f)
 
 module _ {r : Rules} where
-  pub nothing-before : {w : List ℕ} → r .space-before-first-name ≡ false → before-first-name r w → w ≡ []
+  pub nothing-before : {first : Bool} {w : List ℕ} → r .space-before-first-name ≡ false → before-first-name r first w → w ≡ []
   nothing-before f grammar.before-first-name.nothing = refl
   nothing-before f (grammar.before-first-name.blanks t k) = absurd (clash t f)
 
@@ -38,13 +38,14 @@ module _ {r : Rules} where
   one-line f (grammar.value-lines.one k) = k
   one-line f (grammar.value-lines.several t b m c) = absurd (clash t f)
 
--- all five are off
+-- all five are off, and the one for lines that are no field line
 pub record AllOff (r : Rules) : Type 0 where
   pub spaces-in-request-line : r .spaces-in-request-line ≡ false
   pub spaces-in-status-line : r .spaces-in-status-line ≡ false
   pub space-before-first-name : r .space-before-first-name ≡ false
   pub spaces-after-name : r .spaces-after-name ≡ false
   pub multiline-headers : r .multiline-headers ≡ false
+  pub ignore-invalid-headers : r .ignore-invalid-headers ≡ false
 
 -- from the grammar to that of before
 module _ {r : Rules} (off : AllOff r) where
@@ -68,16 +69,17 @@ module _ {r : Rules} (off : AllOff r) where
       subst (λ y. before.field-line (y ++ colon ++ o ++ v ++ t) (record { name = n; value = v })) (sym (append-nil n)) (before.field-line.line h (blanks-around (off .multiline-headers) a) (one-line (off .multiline-headers) x) (blanks-around (off .multiline-headers) b))
   field-line-from (grammar.field-line.line h (grammar.behind-name.blanks t k) a x b) = absurd (clash t (off .spaces-after-name))
 
-  block-from : {w : List ℕ} {fs : List Field} → grammar.header-block r w fs → before.header-block r w fs
-  block-from (grammar.header-block.end e) = before.header-block.end e
-  block-from (grammar.header-block.field f e b) = before.header-block.field (field-line-from f) e (block-from b)
+  block-from : {first : Bool} {w : List ℕ} {fs : List Field} → grammar.header-block r first w fs → before.header-block r w fs
+  block-from (grammar.header-block.end grammar.before-first-name.nothing e) = before.header-block.end e
+  block-from (grammar.header-block.end (grammar.before-first-name.blanks t k) e) = absurd (clash t (off .space-before-first-name))
+  block-from (grammar.header-block.field grammar.before-first-name.nothing f e o b) = before.header-block.field (field-line-from f) e (block-from b)
+  block-from (grammar.header-block.field (grammar.before-first-name.blanks t k) f e o b) = absurd (clash t (off .space-before-first-name))
+  block-from (grammar.header-block.ignored t a l o b) = absurd (clash t (off .ignore-invalid-headers))
 
   head-from : {L : Type 0} {A B : List ℕ → L → Type 0} {w : List ℕ} {l : L} {fs : List Field} → ((v : List ℕ) → A v l → B v l) → grammar.head r A w l fs → before.head r B w l fs
-  head-from {B = B} {l = l} {fs = fs} f (grammar.head.message {e = e} {w = v} {c = c} {b = b} x k y grammar.before-first-name.nothing z) =
-      subst (λ u. before.head r B (u ++ b) l fs) (sym (append-nil (e ++ v ++ c))) (before.head.message x (f v k) y (block-from z))
-  head-from f (grammar.head.message x k y (grammar.before-first-name.blanks t s) z) = absurd (clash t (off .space-before-first-name))
+  head-from f (grammar.head.message {w = v} x k y z) = before.head.message x (f v k) y (block-from z)
 
--- and back, whatever the settings are but for a reason's spaces
+-- and back, whatever the settings are but for a reason's spaces and folds
 module _ {r : Rules} where
   request-line-to : {w : List ℕ} {l : RequestLine} → before.request-line r w l → grammar.request-line r w l
   request-line-to (before.request-line.line m t v) = grammar.request-line.line m grammar.delimiter.one t grammar.delimiter.one v
@@ -91,20 +93,19 @@ module _ {r : Rules} where
   field-line-to (before.field-line.line {n = n} {o = o} {v = v} {t = t} h a x b) =
       subst (λ y. grammar.field-line r (y ++ colon ++ o ++ v ++ t) (record { name = n; value = v })) (append-nil n) (grammar.field-line.line h grammar.behind-name.nothing (around-blanks a) (grammar.value-lines.one x) (around-blanks b))
 
-  block-to : {w : List ℕ} {fs : List Field} → before.header-block r w fs → grammar.header-block r w fs
-  block-to (before.header-block.end e) = grammar.header-block.end e
-  block-to (before.header-block.field f e b) = grammar.header-block.field (field-line-to f) e (block-to b)
+  block-to : {first : Bool} {w : List ℕ} {fs : List Field} → r .multiline-headers ≡ false → before.header-block r w fs → grammar.header-block r first w fs
+  block-to g (before.header-block.end e) = grammar.header-block.end grammar.before-first-name.nothing e
+  block-to g (before.header-block.field f e b) = grammar.header-block.field grammar.before-first-name.nothing (field-line-to f) e (λ t. absurd (clash t g)) (block-to g b)
 
-  head-to : {L : Type 0} {A B : List ℕ → L → Type 0} {w : List ℕ} {l : L} {fs : List Field} → ((v : List ℕ) → B v l → A v l) → before.head r B w l fs → grammar.head r A w l fs
-  head-to {A = A} {l = l} {fs = fs} f (before.head.message {e = e} {w = v} {c = c} {b = b} x k y z) =
-      subst (λ u. grammar.head r A (u ++ b) l fs) (append-nil (e ++ v ++ c)) (grammar.head.message x (f v k) y grammar.before-first-name.nothing (block-to z))
+  head-to : {L : Type 0} {A B : List ℕ → L → Type 0} {w : List ℕ} {l : L} {fs : List Field} → r .multiline-headers ≡ false → ((v : List ℕ) → B v l → A v l) → before.head r B w l fs → grammar.head r A w l fs
+  head-to g f (before.head.message {w = v} x k y z) = grammar.head.message x (f v k) y (block-to g z)
 
--- with all five off a head is what it was before, whatever the other rules are
+-- with all of them off a head is what it was before, whatever the other rules are
 pub request-before : {r : Rules} → AllOff r → {w : List ℕ} {l : RequestLine} {fs : List Field} → request-head r w l fs ↔ before.head r (before.request-line r) w l fs
-request-before off = (λ h. head-from off (λ w. request-line-from off) h, λ h. head-to (λ w. request-line-to) h)
+request-before off = (λ h. head-from off (λ w. request-line-from off) h, λ h. head-to (off .multiline-headers) (λ w. request-line-to) h)
 
 pub response-before : {r : Rules} → AllOff r → {w : List ℕ} {l : StatusLine} {fs : List Field} → response-head r w l fs ↔ before.head r (before.status-line r) w l fs
-response-before off = (λ h. head-from off (λ w. status-line-from off) h, λ h. head-to (λ w. status-line-to (off .spaces-in-status-line)) h)
+response-before off = (λ h. head-from off (λ w. status-line-from off) h, λ h. head-to (off .multiline-headers) (λ w. status-line-to (off .spaces-in-status-line)) h)
 
-pub headers-before : {r : Rules} → AllOff r → {w : List ℕ} {fs : List Field} → grammar.header-block r w fs ↔ before.header-block r w fs
-headers-before off = (block-from off, block-to)
+pub headers-before : {r : Rules} → AllOff r → {first : Bool} {w : List ℕ} {fs : List Field} → grammar.header-block r first w fs ↔ before.header-block r w fs
+headers-before off = (block-from off, block-to (off .multiline-headers))

@@ -14,6 +14,10 @@ use Rattle.grammar.specs.Chunked.{chunk-line}
 abbrev pub Real : (Rules → Bool) → (Rules → Type 0) → Type 0
 Real rule D = ((r : Rules) → rule r ≡ true → D r) × ((r : Rules) → rule r ≡ false → D r → ⊥)
 
+-- where no line is passed over, since a line that is none without the rule is then no error
+abbrev pub RealUnignored : (Rules → Bool) → (Rules → Type 0) → Type 0
+RealUnignored rule D = ((r : Rules) → rule r ≡ true → D r) × ((r : Rules) → rule r ≡ false → r .ignore-invalid-headers ≡ false → D r → ⊥)
+
 -- the other way round
 abbrev pub Restricts : (Rules → Bool) → (Rules → Type 0) → Type 0
 Restricts rule D = ((r : Rules) → rule r ≡ false → D r) × ((r : Rules) → rule r ≡ true → D r → ⊥)
@@ -25,7 +29,7 @@ abbrev pub Response : List ℕ → Rules → Type 0
 Response w r = (l : StatusLine) × (fs : List Field) × response-head r w l fs
 
 abbrev pub Headers : List ℕ → Rules → Type 0
-Headers w r = (fs : List Field) × header-block r w fs
+Headers w r = (fs : List Field) × header-block r true w fs
 
 abbrev pub Chunk : List ℕ → Rules → Type 0
 Chunk w r = (n : ℕ) × chunk-line r w n

@@ -10,31 +10,31 @@ use borrow.Author.Tests.{eqb-false}
 use Rattle.reader.specs.Tests.{clash, never}
 use Rattle.octets.specs.Grammar.{DIGIT}
 use Rattle.octets.specs.Grammar as bytes
-use Rattle.octets.specs.Class.{within, isToken}
-use Rattle.octets.specs.Ties.{in-range, token-is-tchar}
-use Rattle.octets.specs.Outside.{differs, lf-no-token, space-no-token}
+use Rattle.octets.specs.Class.{within, isBlank, isToken}
+use Rattle.octets.specs.Ties.{in-range, blank-is-blank, token-is-tchar}
+use Rattle.octets.specs.Outside.{differs, cr-no-blank, space-no-token}
 use Rattle.utf8.specs.Grammar as characters
 use Rattle.rules.specs.Rules.{Rules}
 use Rattle.grammar.specs.Rows.{none, more, some}
 use Rattle.grammar.specs.Fields.{Field}
-use Rattle.grammar.specs.Message.{line-end, crlf, lf, empty-lines, delimiter, one-zero, other, request-target, RequestLine, request-line, status-code, reason-phrase, StatusLine, header-block, request-head, response-head}
+use Rattle.grammar.specs.Message.{line-end, crlf, lf, empty-lines, delimiter, one-zero, other, request-target, RequestLine, request-line, status-code, reason-phrase, StatusLine, no-fold-left, header-block, request-head, response-head}
 use Rattle.grammar.specs.Message as grammar
 use Rattle.agreement.specs.Tail.{Tail}
 use Rattle.agreement.specs.Tail as tails
 use Rattle.leniency.specs.Text.{ascii}
 use Rattle.leniency.specs.Real.{Real, Restricts, Request, Response, Headers}
 use Rattle.leniency.specs.Shapes.{same-head, same-tail, shape, answer, behind-code}
+use Rattle.leniency.specs.Lines.{at-lf}
 
 -- lf-alone
-no-lf : {r : Rules} {w : List ℕ} {fs : List Field} → r .lf-alone ≡ false → header-block r w fs → w ≡ ascii "\n" → ⊥
-no-lf f (grammar.header-block.end crlf) e = let q : _≡_ {A = ℕ} 13 10 = cc in omega (arith, q)
-no-lf f (grammar.header-block.end (lf t)) e = clash t f
-no-lf f (grammar.header-block.field (grammar.field-line.line (some {b = b} h k) a o v t) d x) e = let q : b ≡ 10 = cc in differs isToken lf-no-token (token-is-tchar b .1 h) q
+no-lf : {r : Rules} {w : List ℕ} → r .lf-alone ≡ false → line-end r w → w ≡ ascii "\n" → ⊥
+no-lf f crlf e = let q : _≡_ {A = ℕ} 13 10 = cc in omega (arith, q)
+no-lf f (lf t) e = clash t f
 
 pub lf-alone-real : Real (λ r. r .lf-alone) (Headers (ascii "\n"))
-lf-alone-real = (λ r t. ([], grammar.header-block.end (lf t)), λ r f d. no-lf f (d .1) refl)
+lf-alone-real = (λ r t. ([], grammar.header-block.end grammar.before-first-name.nothing (lf t)), λ r f d. no-lf f (at-lf [] (d .1) refl .0) refl)
 
--- digits, the code 200, and an empty block
+-- digits, the code 200, and an empty block, which is no fold
 a-digit : (b : ℕ) → within 0x30 0x39 b ≡ true → DIGIT b
 a-digit b h = in-range 0x30 0x39 b h
 
@@ -42,20 +42,23 @@ pub two-hundred : {r : Rules} → status-code r (ascii "200") 200
 unfolding within
 two-hundred = grammar.status-code.class {a = 0x32} {b = 0x30} {c = 0x30} (in-range 0x31 0x35 0x32 refl) (a-digit 0x30 refl) (a-digit 0x30 refl)
 
-pub no-fields : {r : Rules} → header-block r (ascii "\r\n") []
-no-fields = grammar.header-block.end crlf
+pub no-fields : {r : Rules} {first : Bool} → header-block r first (ascii "\r\n") []
+no-fields = grammar.header-block.end grammar.before-first-name.nothing crlf
+
+pub before-end : (r : Rules) → no-fold-left r (ascii "\r\n")
+before-end r t c u e h = differs isBlank cr-no-blank (blank-is-blank c .1 h) (sym (same-head e))
 
 abbrev pub said : ℕ → ℕ → StatusLine
 said major code = record { version = record { major = major; minor = 0 }; code = code; reason = [] }
 
 -- empty-lines
 no-empty : {r : Rules} {w : List ℕ} {l : StatusLine} {fs : List Field} (ys : List ℕ) → r .empty-lines ≡ false → response-head r w l fs → w ≡ 13 ∷ ys → ⊥
-no-empty ys f (grammar.head.message {c = c} {s = s} {b = b} grammar.empty-lines.none d k a x) e = let q : _≡_ {A = ℕ} 72 13 = same-head (ap (λ y. y ++ c ++ s ++ b) (sym (shape d .whole)) ∙ e) in omega (arith, q)
-no-empty ys f (grammar.head.message (grammar.empty-lines.more t i j) d k a x) e = clash t f
+no-empty ys f (grammar.head.message {c = c} {b = b} grammar.empty-lines.none d k x) e = let q : _≡_ {A = ℕ} 72 13 = same-head (ap (λ y. y ++ c ++ b) (sym (shape d .whole)) ∙ e) in omega (arith, q)
+no-empty ys f (grammar.head.message (grammar.empty-lines.more t i j) d k x) e = clash t f
 
 pub empty-lines-real : Real (λ r. r .empty-lines) (Response (ascii "\r\nHTTP/1.0 200 \r\n\r\n"))
 empty-lines-real = (
-  λ r t. (said 1 200, [], grammar.head.message (grammar.empty-lines.more t crlf grammar.empty-lines.none) (grammar.status-line.no-reason one-zero grammar.delimiter.one two-hundred grammar.delimiter.one) crlf grammar.before-first-name.nothing no-fields),
+  λ r t. (said 1 200, [], grammar.head.message (grammar.empty-lines.more t crlf grammar.empty-lines.none) (grammar.status-line.no-reason one-zero grammar.delimiter.one two-hundred grammar.delimiter.one) crlf no-fields),
   λ r f d. no-empty (ascii "\nHTTP/1.0 200 \r\n\r\n") f (d .2) refl,
 )
 
@@ -63,7 +66,7 @@ empty-lines-real = (
 pub known-versions-real : Restricts (λ r. r .known-versions) (Response (ascii "HTTP/0.0 200 \r\n\r\n"))
 unfolding within
 known-versions-real = (
-  λ r f. (said 0 200, [], grammar.head.message grammar.empty-lines.none (grammar.status-line.no-reason (other {a = 0x30} {b = 0x30} f (a-digit 0x30 refl) (a-digit 0x30 refl)) grammar.delimiter.one two-hundred grammar.delimiter.one) crlf grammar.before-first-name.nothing no-fields),
+  λ r f. (said 0 200, [], grammar.head.message grammar.empty-lines.none (grammar.status-line.no-reason (other {a = 0x30} {b = 0x30} f (a-digit 0x30 refl) (a-digit 0x30 refl)) grammar.delimiter.one two-hundred grammar.delimiter.one) crlf no-fields),
   λ r t d.
       let A = answer (ascii "TTP/0.0 200 \r\n\r\n") (d .2) refl in
       let q : A .line .a ≡ 48 = same-head (same-tail (same-tail (same-tail (same-tail (same-tail (A .whole)))))) in
@@ -74,7 +77,7 @@ known-versions-real = (
 pub any-code-real : Real (λ r. r .any-code) (Response (ascii "HTTP/1.0 000 \r\n\r\n"))
 unfolding within
 any-code-real = (
-  λ r t. (said 1 0, [], grammar.head.message grammar.empty-lines.none (grammar.status-line.no-reason one-zero grammar.delimiter.one (grammar.status-code.any {a = 0x30} {b = 0x30} {c = 0x30} t (a-digit 0x30 refl) (a-digit 0x30 refl) (a-digit 0x30 refl)) grammar.delimiter.one) crlf grammar.before-first-name.nothing no-fields),
+  λ r t. (said 1 0, [], grammar.head.message grammar.empty-lines.none (grammar.status-line.no-reason one-zero grammar.delimiter.one (grammar.status-code.any {a = 0x30} {b = 0x30} {c = 0x30} t (a-digit 0x30 refl) (a-digit 0x30 refl) (a-digit 0x30 refl)) grammar.delimiter.one) crlf no-fields),
   λ r f d.
       let A = answer (ascii "TTP/1.0 000 \r\n\r\n") (d .2) refl in
       omega (arith, A .line .code f, behind-code A (ascii " \r\n\r\n") refl refl .0),
@@ -93,10 +96,10 @@ no-short f (tails.short t) zs ys e = clash t f
 
 pub code-ends-line-real : Real (λ r. r .code-ends-line) (Response (ascii "HTTP/1.0 200\r\n\r\n"))
 code-ends-line-real = (
-  λ r t. (said 1 200, [], grammar.head.message grammar.empty-lines.none (grammar.status-line.code-ends t one-zero grammar.delimiter.one two-hundred) crlf grammar.before-first-name.nothing no-fields),
+  λ r t. (said 1 200, [], grammar.head.message grammar.empty-lines.none (grammar.status-line.code-ends t one-zero grammar.delimiter.one two-hundred) crlf no-fields),
   λ r f d.
       let A = answer (ascii "TTP/1.0 200\r\n\r\n") (d .2) refl in
-      no-short f (A .line .tail) (A .c ++ (A .s ++ A .b)) (ascii "\n\r\n") (behind-code A (ascii "\r\n\r\n") refl refl .1),
+      no-short f (A .line .tail) (A .c ++ A .b) (ascii "\n\r\n") (behind-code A (ascii "\r\n\r\n") refl refl .1),
 )
 
 -- obs-reason: what is given, and not what is read
@@ -118,10 +121,10 @@ no-emptied f (tails.short t) g k zs ys e = no-end 32 refl refl k zs (0x80 ∷ ys
 pub obs-reason-real : Real (λ r. r .obs-reason) (λ r. response-head r (ascii "HTTP/1.0 200 " ++ (0x80 ∷ []) ++ ascii "\r\n\r\n") (said 1 200) [])
 unfolding within
 obs-reason-real = (
-  λ r t. grammar.head.message grammar.empty-lines.none (grammar.status-line.reason one-zero grammar.delimiter.one two-hundred grammar.delimiter.one (grammar.reason-phrase.emptied {u = []} {v = []} {c = 0x80} t none (in-range 0x80 0xFF 0x80 refl) none) (λ t u e. let q : _≡_ {A = ℕ} 0x80 0x20 = same-head e in omega (arith, q))) crlf grammar.before-first-name.nothing no-fields,
+  λ r t. grammar.head.message grammar.empty-lines.none (grammar.status-line.reason one-zero grammar.delimiter.one two-hundred grammar.delimiter.one (grammar.reason-phrase.emptied {u = []} {v = []} {c = 0x80} t none (in-range 0x80 0xFF 0x80 refl) none) (λ t u e. let q : _≡_ {A = ℕ} 0x80 0x20 = same-head e in omega (arith, q))) crlf no-fields,
   λ r f d.
       let A = answer (ascii "TTP/1.0 200 " ++ (0x80 ∷ []) ++ ascii "\r\n\r\n") d refl in
-      no-emptied f (A .line .tail) refl (A .ends) (A .s ++ A .b) (ascii "\r\n\r\n") (behind-code A (32 ∷ 0x80 ∷ ascii "\r\n\r\n") refl refl .1),
+      no-emptied f (A .line .tail) refl (A .ends) (A .b) (ascii "\r\n\r\n") (behind-code A (32 ∷ 0x80 ∷ ascii "\r\n\r\n") refl refl .1),
 )
 
 -- any-target
@@ -141,12 +144,21 @@ no-line f (grammar.request-line.line {t = t} {e = d} {v = v} (some h none) gramm
 no-line f (grammar.request-line.line {t = t} {e = d} {v = v} (some h none) (grammar.delimiter.more {w = w} o i) k s n) zs ys e = let q : w ++ t ++ d ++ v ++ zs ≡ 0xC2 ∷ ys = same-tail (same-tail e) in omega (arith, begins-space i (t ++ (d ++ (v ++ zs))) 0xC2 ys (simp append-assoc at q))
 no-line f (grammar.request-line.line (some h (more {b = b} x l)) i k s n) zs ys e = differs isToken space-no-token (token-is-tchar b .1 x) (same-head (same-tail e))
 
--- the line of a request that begins with the letter A
-pub first-line : {r : Rules} {w : List ℕ} {l : RequestLine} {fs : List Field} (ys : List ℕ) → request-head r w l fs → w ≡ 65 ∷ ys → (v zs : List ℕ) × request-line r v l × (v ++ zs ≡ 65 ∷ ys)
-first-line ys (grammar.head.message {e = e} {w = v} {c = c} {s = s} {b = b} empty d k a x) q =
-    let p : e ++ (v ++ (c ++ (s ++ b))) ≡ 65 ∷ ys = simp append-assoc at q in
-    let n : e ≡ [] = no-empty-lines 65 refl refl empty (v ++ (c ++ (s ++ b))) ys p in
-    (v, c ++ (s ++ b), d, ap (λ y. y ++ (v ++ (c ++ (s ++ b)))) (sym n) ∙ p)
+-- a request that begins with the letter A, up to its line, and what is behind that
+pub record Asked (r : Rules) (w : List ℕ) (l : RequestLine) (fs : List Field) : Type 0 where
+  pub v : List ℕ
+  pub c : List ℕ
+  pub b : List ℕ
+  pub line : request-line r v l
+  pub ends : line-end r c
+  pub block : header-block r true b fs
+  pub whole : v ++ (c ++ b) ≡ w
+
+pub asked : {r : Rules} {w : List ℕ} {l : RequestLine} {fs : List Field} (ys : List ℕ) → request-head r w l fs → w ≡ 65 ∷ ys → Asked r w l fs
+asked ys (grammar.head.message {e = e} {w = v} {c = c} {b = b} empty d k x) q =
+    let p : e ++ (v ++ (c ++ b)) ≡ e ++ v ++ c ++ b = simp append-assoc in
+    let n : e ≡ [] = no-empty-lines 65 refl refl empty (v ++ (c ++ b)) ys (p ∙ q) in
+    record { v = v; c = c; b = b; line = d; ends = k; block = x; whole = ap (λ y. y ++ (v ++ (c ++ b))) (sym n) ∙ p }
 
 pub any-target-real : Real (λ r. r .any-target) (Request (ascii "A " ++ accent ++ ascii " HTTP/1.0\r\n\r\n"))
 unfolding within
@@ -157,7 +169,7 @@ any-target-real = (
     grammar.head.message grammar.empty-lines.none
         (grammar.request-line.line (some (bytes.letter (bytes.capital (in-range 0x41 0x5A 0x41 refl))) none) grammar.delimiter.one
         (grammar.request-target.any t (some (bytes.obsolete (in-range 0x80 0xFF 0xC2 refl)) (more (bytes.obsolete (in-range 0x80 0xFF 0x80 refl)) none)) (characters.char (characters.two (characters.C2-DF (in-range 0xC2 0xDF 0xC2 refl) (in-range 0x80 0xBF 0x80 refl))) characters.none))
-        grammar.delimiter.one one-zero) crlf grammar.before-first-name.nothing no-fields,
+        grammar.delimiter.one one-zero) crlf no-fields,
   ),
-  λ r f d. let L = first-line (32 ∷ accent ++ ascii " HTTP/1.0\r\n\r\n") (d .2) refl in no-line f (L .2) (L .1) (0x80 ∷ ascii " HTTP/1.0\r\n\r\n") (L .3),
+  λ r f d. let A = asked (32 ∷ accent ++ ascii " HTTP/1.0\r\n\r\n") (d .2) refl in no-line f (A .line) (A .c ++ A .b) (0x80 ∷ ascii " HTTP/1.0\r\n\r\n") (A .whole),
 )

@@ -21,47 +21,53 @@ use Rattle.requestline.specs.declared.RequestLine as told
 use Rattle.heads.specs.Calls.{request, response}
 use Rattle.agreement.specs.Known.{RequestSays, fieldsIn}
 use Rattle.agreement.specs.Promises.{HeadPromise}
-use Rattle.leniency.specs.Allows.{LinesAllowed, head-as}
+use Rattle.leniency.specs.Allows.{LinesAllowed, KeptIgnored, head-as}
 use Rattle.leniency.specs.More.{version-as}
 use Rattle.leniency.specs.Agree.{Agrees, agrees}
 use Rattle.plain.specs.Plain.{OneLine}
 use Rattle.plain.specs.OneLine.{head-off}
 
--- ascii_targets on and off, whatever the two other settings of a request are
-abbrev pub ascii-on : Bool → Bool → Rules
-ascii-on q f = changed false q false f false false
+-- ascii_targets on and off, whatever the three other settings of a request are
+abbrev pub ascii-on : Bool → Bool → Bool → Rules
+ascii-on q f i = changed false q false f false false i
 
-abbrev pub ascii-off : Bool → Bool → Rules
-ascii-off q f = changed true q false f false false
+abbrev pub ascii-off : Bool → Bool → Bool → Rules
+ascii-off q f i = changed true q false f false false i
 
-module _ (q f : Bool) where
-  line-without : {w : List ℕ} {l : RequestLine} → request-line (ascii-on q f) w l → request-line (ascii-off q f) w l
+module _ (q f i : Bool) where
+  line-without : {w : List ℕ} {l : RequestLine} → request-line (ascii-on q f i) w l → request-line (ascii-off q f i) w l
   line-without (grammar.request-line.line m d (grammar.request-target.visible k) e v) = grammar.request-line.line m d (grammar.request-target.visible k) e (version-as (λ t. t) v)
   line-without (grammar.request-line.line m d (grammar.request-target.any t k u) e v) = absurd (false≢true t)
 
-  line-with : {w : List ℕ} {l : RequestLine} → Some VCHAR (l .target) → request-line (ascii-off q f) w l → request-line (ascii-on q f) w l
+  line-with : {w : List ℕ} {l : RequestLine} → Some VCHAR (l .target) → request-line (ascii-off q f i) w l → request-line (ascii-on q f i) w l
   line-with k (grammar.request-line.line m d t e v) = grammar.request-line.line m d (grammar.request-target.visible k) e (version-as (λ t. t) v)
 
-  visible-line : {w : List ℕ} {l : RequestLine} → request-line (ascii-on q f) w l → Some VCHAR (l .target)
+  visible-line : {w : List ℕ} {l : RequestLine} → request-line (ascii-on q f i) w l → Some VCHAR (l .target)
   visible-line (grammar.request-line.line m d (grammar.request-target.visible k) e v) = k
   visible-line (grammar.request-line.line m d (grammar.request-target.any t k u) e v) = absurd (false≢true t)
 
-  visible-head : {w : List ℕ} {l : RequestLine} {fs : List Field} → request-head (ascii-on q f) w l fs → Some VCHAR (l .target)
-  visible-head (grammar.head.message e k c a b) = visible-line k
+  visible-head : {w : List ℕ} {l : RequestLine} {fs : List Field} → request-head (ascii-on q f i) w l fs → Some VCHAR (l .target)
+  visible-head (grammar.head.message e k c b) = visible-line k
 
-  lines-without : LinesAllowed (ascii-on q f) (ascii-off q f)
-  lines-without = record { lf-alone = λ t. t; empty-lines = λ t. t; space-before-first-name = λ t. t; spaces-after-name = λ t. t; multiline-headers = λ t. t }
+  lines-without : LinesAllowed (ascii-on q f i) (ascii-off q f i)
+  lines-without = record { lf-alone = λ t. t; empty-lines = λ t. t; space-before-first-name = λ t. t; spaces-after-name = λ t. t; multiline-headers = λ t. t; ignore-invalid-headers = λ t. t }
 
-  lines-with : LinesAllowed (ascii-off q f) (ascii-on q f)
-  lines-with = record { lf-alone = λ t. t; empty-lines = λ t. t; space-before-first-name = λ t. t; spaces-after-name = λ t. t; multiline-headers = λ t. t }
+  lines-with : LinesAllowed (ascii-off q f i) (ascii-on q f i)
+  lines-with = record { lf-alone = λ t. t; empty-lines = λ t. t; space-before-first-name = λ t. t; spaces-after-name = λ t. t; multiline-headers = λ t. t; ignore-invalid-headers = λ t. t }
+
+  kept-without : KeptIgnored (ascii-on q f i) (ascii-off q f i)
+  kept-without t = record { space-before-first-name = λ t. t; spaces-after-name = λ t. t; multiline-headers = λ t. t }
+
+  kept-with : KeptIgnored (ascii-off q f i) (ascii-on q f i)
+  kept-with t = record { space-before-first-name = λ t. t; spaces-after-name = λ t. t; multiline-headers = λ t. t }
 
   -- with it a request is what it is without it, and its target is visible ASCII
-  pub ascii-request : {w : List ℕ} {l : RequestLine} {fs : List Field} → request-head (ascii-on q f) w l fs ↔ (request-head (ascii-off q f) w l fs × Some VCHAR (l .target))
-  ascii-request = (λ h. (head-as lines-without (λ w. line-without) h, visible-head h), λ x. head-as lines-with (λ w. line-with (x .1)) (x .0))
+  pub ascii-request : {w : List ℕ} {l : RequestLine} {fs : List Field} → request-head (ascii-on q f i) w l fs ↔ (request-head (ascii-off q f i) w l fs × Some VCHAR (l .target))
+  ascii-request = (λ h. (head-as lines-without kept-without (λ w. line-without) h, visible-head h), λ x. head-as lines-with kept-with (λ w. line-with (x .1)) (x .0))
 
   -- two readers of the same bytes, of which one has the setting on and the other off and slots enough, do not disagree about where a request ends
   -- or what is in it
-  pub ascii-agrees : {In In′ : List ℕ → told.RequestLine → Type 0} {s old old′ : List ℕ} {end end′ : Passed} {line line′ : told.RequestLine} {count count′ : ℕ} {new new′ : List ℕ} → HeadPromise (ascii-on q f) (request-head (ascii-on q f)) RequestSays In s old end line count new → HeadPromise (ascii-off q f) (request-head (ascii-off q f)) RequestSays In′ s old′ end′ line′ count′ new′ → (p : ℕ) → end ≡ At p → count ≤ length old′ / 4 → Agrees RequestSays s p end′ line line′ (fieldsIn s count new) (fieldsIn s count′ new′)
+  pub ascii-agrees : {In In′ : List ℕ → told.RequestLine → Type 0} {s old old′ : List ℕ} {end end′ : Passed} {line line′ : told.RequestLine} {count count′ : ℕ} {new new′ : List ℕ} → HeadPromise (ascii-on q f i) (request-head (ascii-on q f i)) RequestSays In s old end line count new → HeadPromise (ascii-off q f i) (request-head (ascii-off q f i)) RequestSays In′ s old′ end′ line′ count′ new′ → (p : ℕ) → end ≡ At p → count ≤ length old′ / 4 → Agrees RequestSays s p end′ line line′ (fieldsIn s count new) (fieldsIn s count′ new′)
   ascii-agrees = agrees (λ w l fs h. ascii-request .0 h .0)
 
 -- of a request no setting for the header lines of a response is asked: its values stand in one line, whatever the settings are

@@ -12,7 +12,7 @@ use Rattle.gaps.specs.Gap.{spacesIf}
 use Rattle.rules.specs.Rules.{Rules}
 use Rattle.grammar.specs.Rows.{Many, none, more}
 use Rattle.grammar.specs.Fields.{Field}
-use Rattle.grammar.specs.Message.{line-end, crlf, lf, Version, HTTP-version, one-zero, one-one, other, status-code, StatusLine, status-line, header-block, before-first-name, response-head}
+use Rattle.grammar.specs.Message.{line-end, crlf, lf, Version, HTTP-version, one-zero, one-one, other, status-code, StatusLine, status-line, header-block, response-head}
 use Rattle.grammar.specs.Message as grammar
 use Rattle.leaves.specs.Rows.{In}
 use Rattle.agreement.specs.Delimiters.{delimiter-read}
@@ -41,13 +41,13 @@ pub record Shape (r : Rules) (w : List ℕ) (l : StatusLine) : Type 0 where
   pub code : (r .any-code ≡ false) → 49 ≤ x
   pub tail : Tail r t (l .reason)
 
-record Eight (r : Rules) (v : List ℕ) : Type 0 where
-  a : ℕ
-  b : ℕ
-  whole : v ≡ 72 ∷ 84 ∷ 84 ∷ 80 ∷ 47 ∷ a ∷ 46 ∷ b ∷ []
-  known : (r .known-versions ≡ true) → a ≡ 49
+pub record Eight (r : Rules) (v : List ℕ) : Type 0 where
+  pub a : ℕ
+  pub b : ℕ
+  pub whole : v ≡ 72 ∷ 84 ∷ 84 ∷ 80 ∷ 47 ∷ a ∷ 46 ∷ b ∷ []
+  pub known : (r .known-versions ≡ true) → a ≡ 49
 
-eight : {r : Rules} {v : List ℕ} {n : Version} → HTTP-version r v n → Eight r v
+pub eight : {r : Rules} {v : List ℕ} {n : Version} → HTTP-version r v n → Eight r v
 eight one-zero = record { a = 49; b = 48; whole = refl; known = λ _. refl }
 eight one-one = record { a = 49; b = 49; whole = refl; known = λ _. refl }
 eight (other {a = a} {b = b} t h k) = record { a = a; b = b; whole = refl; known = λ u. absurd (clash u t) }
@@ -90,24 +90,22 @@ shape {r} d =
 pub record Answer (r : Rules) (w : List ℕ) (l : StatusLine) (fs : List Field) : Type 0 where
   pub v : List ℕ
   pub c : List ℕ
-  pub s : List ℕ
   pub b : List ℕ
   pub line : Shape r v l
-  pub whole : 72 ∷ 84 ∷ 84 ∷ 80 ∷ 47 ∷ line .a ∷ 46 ∷ line .b ∷ 32 ∷ (line .g ++ (line .x ∷ line .y ∷ line .z ∷ (line .t ++ (c ++ (s ++ b))))) ≡ w
+  pub whole : 72 ∷ 84 ∷ 84 ∷ 80 ∷ 47 ∷ line .a ∷ 46 ∷ line .b ∷ 32 ∷ (line .g ++ (line .x ∷ line .y ∷ line .z ∷ (line .t ++ (c ++ b)))) ≡ w
   pub ends : line-end r c
-  pub before : before-first-name r s
-  pub block : header-block r b fs
+  pub block : header-block r true b fs
 
 no-empty-line : {r : Rules} {e : List ℕ} (ys zs : List ℕ) → line-end r e → e ++ ys ≡ 72 ∷ zs → ⊥
 no-empty-line ys zs crlf e = let q : _≡_ {A = ℕ} 13 72 = cc in omega (arith, q)
 no-empty-line ys zs (lf t) e = let q : _≡_ {A = ℕ} 10 72 = cc in omega (arith, q)
 
 pub answer : {r : Rules} {w : List ℕ} {l : StatusLine} {fs : List Field} (ys : List ℕ) → response-head r w l fs → w ≡ 72 ∷ ys → Answer r w l fs
-answer ys (grammar.head.message {w = v} {c = c} {s = s} {b = b} grammar.empty-lines.none d k f x) e =
+answer ys (grammar.head.message {w = v} {c = c} {b = b} grammar.empty-lines.none d k x) e =
     let S = shape d in
-    let behind : v ++ (c ++ (s ++ b)) ≡ v ++ c ++ s ++ b = sym (append-assoc v c (s ++ b)) ∙ sym (append-assoc (v ++ c) s b) in
-    record { v = v; c = c; s = s; b = b; line = S; whole = ap (λ y. 72 ∷ 84 ∷ 84 ∷ 80 ∷ 47 ∷ S .a ∷ 46 ∷ S .b ∷ 32 ∷ y) (sym (append-assoc (S .g) (S .x ∷ S .y ∷ S .z ∷ S .t) (c ++ (s ++ b)))) ∙ ap (λ y. y ++ (c ++ (s ++ b))) (sym (S .whole)) ∙ behind; ends = k; before = f; block = x }
-answer ys (grammar.head.message {w = v} {c = c} {s = s} {b = b} (grammar.empty-lines.more {e = f} {w = g} t i j) d k y x) e = absurd (no-empty-line (g ++ (v ++ (c ++ (s ++ b)))) ys i (simp append-assoc at e))
+    let behind : v ++ (c ++ b) ≡ v ++ c ++ b = sym (append-assoc v c b) in
+    record { v = v; c = c; b = b; line = S; whole = ap (λ y. 72 ∷ 84 ∷ 84 ∷ 80 ∷ 47 ∷ S .a ∷ 46 ∷ S .b ∷ 32 ∷ y) (sym (append-assoc (S .g) (S .x ∷ S .y ∷ S .z ∷ S .t) (c ++ b))) ∙ ap (λ y. y ++ (c ++ b)) (sym (S .whole)) ∙ behind; ends = k; block = x }
+answer ys (grammar.head.message {w = v} {c = c} {b = b} (grammar.empty-lines.more {e = f} {w = g} t i j) d k x) e = absurd (no-empty-line (g ++ (v ++ (c ++ b))) ys i (simp append-assoc at e))
 
 -- before a byte that is no space there is none
 past-gap : (several : Bool) {g : List ℕ} (j : ℕ) → eqb j 32 ≡ false → Many (In (spacesIf several)) g → (xs ys : List ℕ) → g ++ xs ≡ j ∷ ys → xs ≡ j ∷ ys
@@ -115,8 +113,8 @@ past-gap several j f none xs ys e = e
 past-gap several j f (more {b = b} h k) xs ys e = absurd (differs (λ y. eqb y 32) f (both-true several (eqb b 32) h .1) (same-head e))
 
 -- what stands behind the code
-pub behind-code : {r : Rules} {w : List ℕ} {l : StatusLine} {fs : List Field} (A : Answer r w l fs) (ys : List ℕ) {a b c d e f g h i j k m : ℕ} → eqb j 32 ≡ false → w ≡ a ∷ b ∷ c ∷ d ∷ e ∷ f ∷ g ∷ h ∷ i ∷ j ∷ k ∷ m ∷ ys → (A .line .x ≡ j) × (A .line .t ++ (A .c ++ (A .s ++ A .b)) ≡ ys)
+pub behind-code : {r : Rules} {w : List ℕ} {l : StatusLine} {fs : List Field} (A : Answer r w l fs) (ys : List ℕ) {a b c d e f g h i j k m : ℕ} → eqb j 32 ≡ false → w ≡ a ∷ b ∷ c ∷ d ∷ e ∷ f ∷ g ∷ h ∷ i ∷ j ∷ k ∷ m ∷ ys → (A .line .x ≡ j) × (A .line .t ++ (A .c ++ A .b) ≡ ys)
 behind-code {r} A ys {j = j} {k = k} {m = m} n u =
     let q = same-tail (same-tail (same-tail (same-tail (same-tail (same-tail (same-tail (same-tail (same-tail (A .whole ∙ u))))))))) in
-    let p = past-gap (r .spaces-in-status-line) j n (A .line .gap) (A .line .x ∷ A .line .y ∷ A .line .z ∷ (A .line .t ++ (A .c ++ (A .s ++ A .b)))) (k ∷ m ∷ ys) q in
+    let p = past-gap (r .spaces-in-status-line) j n (A .line .gap) (A .line .x ∷ A .line .y ∷ A .line .z ∷ (A .line .t ++ (A .c ++ A .b))) (k ∷ m ∷ ys) q in
     (same-head p, same-tail (same-tail (same-tail p)))

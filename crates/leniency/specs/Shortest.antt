@@ -1,6 +1,6 @@
 -- No response with a value over several lines, and so without a plain form, is shorter than the one in Readings.antt.
 -- Assumes nothing.
-use Prim.Native.Nat.{ℕ, _+_, _≤_}
+use Prim.Native.Nat.{ℕ, _≤_}
 use native.Mathlib.Omega.{arith}
 use mathlib.Core.Logic.{_⊎_, inl, inr}
 use mathlib.Core.List.{List, [], _∷_, _++_}
@@ -49,13 +49,14 @@ field-long (grammar.field-line.line {s = s} {o = o} {t = t} (some {b = h} {w = n
           length-append (b ∷ m) (c ∷ []),
         ))
 
-broken-long : {r : Rules} {w : List ℕ} {fs : List Field} → header-block r w fs → (OneLine fs → ⊥) → 8 ≤ length w
-broken-long (grammar.header-block.end e) h = absurd (h tt)
-broken-long (grammar.header-block.field {w = w} {e = e} {b = b} {f = f} {fs = fs} d c k) h = by (field-long d) (λ i. broken-long k i)
+broken-long : {r : Rules} {first : Bool} {w : List ℕ} {fs : List Field} → header-block r first w fs → (OneLine fs → ⊥) → 8 ≤ length w
+broken-long (grammar.header-block.end a e) h = absurd (h tt)
+broken-long (grammar.header-block.field {s = s} {w = w} {e = e} {b = b} {f = f} {fs = fs} a d c o k) h = by (field-long d) (λ i. broken-long k i)
   where
-    by : one-line (f .value) ⊎ (6 ≤ length w) → ((OneLine fs → ⊥) → 8 ≤ length b) → 8 ≤ length (w ++ e ++ b)
-    by (inl u) rest = omega (arith, length-append (w ++ e) b, rest (λ i. h (u, i)))
-    by (inr l) rest = omega (arith, l, length-append (w ++ e) b, length-append w e, ends-long c, block-long k)
+    by : one-line (f .value) ⊎ (6 ≤ length w) → ((OneLine fs → ⊥) → 8 ≤ length b) → 8 ≤ length (s ++ (w ++ e ++ b))
+    by (inl u) rest = omega (arith, length-append s (w ++ e ++ b), length-append (w ++ e) b, rest (λ i. h (u, i)))
+    by (inr l) rest = omega (arith, l, length-append s (w ++ e ++ b), length-append (w ++ e) b, length-append w e, ends-long c, block-long k)
+broken-long (grammar.header-block.ignored {s = s} {w = w} {b = b} t a l o k) h = omega (arith, length-append s (w ++ b), length-append w b, broken-long k h)
 
 version-long : {r : Rules} {w : List ℕ} {v : Version} → HTTP-version r w v → 8 ≤ length w
 version-long one-zero = omega arith
@@ -77,4 +78,4 @@ line-long d =
 
 -- whatever the rules are
 pub shortest-fold : {r : Rules} {w : List ℕ} {l : StatusLine} {fs : List Field} → response-head r w l fs → (OneLine fs → ⊥) → length (ascii "HTTP/1.0 200\nA:b\n c\n\n") ≤ length w
-shortest-fold (grammar.head.message {e = e} {w = w} {c = c} {s = s} {b = b} x l d n k) h = omega (arith, length-append (e ++ w ++ c ++ s) b, length-append (e ++ w ++ c) s, length-append (e ++ w) c, length-append e w, line-long l, ends-long d, broken-long k h)
+shortest-fold (grammar.head.message {e = e} {w = w} {c = c} {b = b} x l d k) h = omega (arith, length-append (e ++ w ++ c) b, length-append (e ++ w) c, length-append e w, line-long l, ends-long d, broken-long k h)

@@ -6,7 +6,7 @@ use native.Mathlib.Omega.{arith}
 use mathlib.Core.Path.{_≡_, refl, sym, ap, subst}
 use mathlib.Core.Logic.{_⊎_, inl, inr}
 use mathlib.Core.List.{List, [], _∷_, _++_, append-assoc}
-use mathlib.Core.Bool.{true, false, false≢true}
+use mathlib.Core.Bool.{Bool, true, false, false≢true}
 use lib.ListN.{length}
 use Rattle.octets.specs.Grammar.{DIGIT, HEXDIG, obs-text, text}
 use Rattle.octets.specs.Grammar as bytes
@@ -18,14 +18,17 @@ use Rattle.grammar.specs.Message as grammar
 use Rattle.agreement.specs.Rows.{some-as, many-append}
 use Rattle.grammar.specs.Chunked.{hexadecimal, chunk-size, behind-size, chunk-line}
 use Rattle.grammar.specs.Chunked as chunked
-use Rattle.leniency.specs.Allows.{LinesAllowed, block-as, head-as}
+use Rattle.leniency.specs.Allows.{LinesAllowed, KeptIgnored, block-as, head-as}
 
 never : {A : Type 0} → false ≡ true → A
 never e = absurd (false≢true e)
 
 -- the lines around a start line
 lines : LinesAllowed strict default
-lines = record { lf-alone = never; empty-lines = never; space-before-first-name = never; spaces-after-name = never; multiline-headers = never }
+lines = record { lf-alone = never; empty-lines = never; space-before-first-name = never; spaces-after-name = never; multiline-headers = never; ignore-invalid-headers = never }
+
+none-ignored : KeptIgnored strict default
+none-ignored = never
 
 -- known-versions: 1.0 or 1.1
 abbrev pub Known : Version → Type 0
@@ -56,7 +59,7 @@ request-line-too : {l : RequestLine} → Known (l .version) → {w : List ℕ} �
 request-line-too k (grammar.request-line.line m d t e v) = grammar.request-line.line m d (target-too t) e (version-known k v)
 
 pub strict-request : {w : List ℕ} {l : RequestLine} {fs : List Field} → request-head strict w l fs → Known (l .version) → request-head default w l fs
-strict-request h k = head-as lines (λ v. request-line-too k) h
+strict-request h k = head-as lines none-ignored (λ v. request-line-too k) h
 
 -- obs-reason: a reason that is plain text
 some-ascii : {w : List ℕ} → Some text w → Many ascii-text w → Some ascii-text w
@@ -73,7 +76,7 @@ status-line-too k p (grammar.status-line.no-reason v d c e) = grammar.status-lin
 status-line-too k p (grammar.status-line.code-ends t v d c) = never t
 
 pub strict-response : {w : List ℕ} {l : StatusLine} {fs : List Field} → response-head strict w l fs → Known (l .version) → Many ascii-text (l .reason) → response-head default w l fs
-strict-response h k p = head-as lines (λ v. status-line-too k p) h
+strict-response h k p = head-as lines none-ignored (λ v. status-line-too k p) h
 
 -- and a reason with obs-text is given as empty
 pub record Obsolete (w : List ℕ) : Type 0 where
@@ -111,10 +114,10 @@ status-line-emptied k o (grammar.status-line.no-reason n d c e) = grammar.status
 status-line-emptied k o (grammar.status-line.code-ends t n d c) = never t
 
 pub strict-response-emptied : {w : List ℕ} {l : StatusLine} {fs : List Field} → response-head strict w l fs → Known (l .version) → Obsolete (l .reason) → response-head default w (unreasoned l) fs
-strict-response-emptied h k o = head-as lines (λ v. status-line-emptied k o) h
+strict-response-emptied h k o = head-as lines none-ignored (λ v. status-line-emptied k o) h
 
-pub strict-headers : {w : List ℕ} {fs : List Field} → header-block strict w fs → header-block default w fs
-strict-headers = block-as lines
+pub strict-headers : {first : Bool} {w : List ℕ} {fs : List Field} → header-block strict first w fs → header-block default first w fs
+strict-headers = block-as lines none-ignored
 
 -- sixteen-digits: no more than sixteen digits stand at the start
 abbrev pub Few : List ℕ → Type 0

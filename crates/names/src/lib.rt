@@ -31,7 +31,7 @@ fn colon(s: &[u8], end: usize, allowed: bool) -> Passed
 
 // One or more token bytes and a colon, with spaces and tabs between them where they are allowed.
 pub fn name(s: &[u8], at: usize, allowed: bool) -> Found
-    ensures { λ r. ⌜ found r ≡ nameAt (changed true false false false allowed false) (now (s .entry)) at ⌝ }
+    ensures { λ r. ⌜ found r ≡ nameAt (changed true false false false allowed false false) (now (s .entry)) at ⌝ }
 {
     if s.len() <= at {
         return Found::More;

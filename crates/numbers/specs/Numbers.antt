@@ -30,6 +30,8 @@ settingsOf bits = record {
   «space_before_first_name» = eqb ((bits / 16) % 2) 1;
   «spaces_after_name» = eqb (bits % 2) 1;
   «multiline_headers» = eqb ((bits / 2) % 2) 1;
+  «ignore_invalid_headers_in_requests» = eqb ((bits / 64) % 2) 1;
+  «ignore_invalid_headers_in_responses» = eqb ((bits / 32) % 2) 1;
 }
 
 -- the number of each error

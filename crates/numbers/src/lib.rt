@@ -164,5 +164,7 @@ pub fn settings_of(bits: u32) -> Settings
         space_before_first_name: (bits / 16) % 2 == 1,
         spaces_after_name: bits % 2 == 1,
         multiline_headers: (bits / 2) % 2 == 1,
+        ignore_invalid_headers_in_requests: (bits / 64) % 2 == 1,
+        ignore_invalid_headers_in_responses: (bits / 32) % 2 == 1,
     }
 }

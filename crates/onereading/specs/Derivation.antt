@@ -74,7 +74,7 @@ three-digits (grammar.status-code.class x y z) = omega (arith, x .high, y .high,
 three-digits (grammar.status-code.any t x y z) = omega (arith, x .high, y .high, z .high)
 
 pub request-one : {r : Rules} {w : List ℕ} {l : RequestLine} {fs : List Field} → Fixed r → request-head r w l fs → (l .version .major ≡ 1) × (l .version .minor ≤ 9)
-request-one fixed (grammar.head.message e (grammar.request-line.line m x t y v) c s b) = version-one fixed v
+request-one fixed (grammar.head.message e (grammar.request-line.line m x t y v) c b) = version-one fixed v
 
 status-one : {r : Rules} {w : List ℕ} {l : StatusLine} → Fixed r → status-line r w l → (l .version .major ≡ 1) × (l .version .minor ≤ 9) × (l .code ≤ 999)
 status-one fixed (grammar.status-line.reason v d c e x n) = let u = version-one fixed v in (u .0, u .1, three-digits c)
@@ -82,7 +82,7 @@ status-one fixed (grammar.status-line.no-reason v d c e) = let u = version-one f
 status-one fixed (grammar.status-line.code-ends t v d c) = let u = version-one fixed v in (u .0, u .1, three-digits c)
 
 pub response-one : {r : Rules} {w : List ℕ} {l : StatusLine} {fs : List Field} → Fixed r → response-head r w l fs → (l .version .major ≡ 1) × (l .version .minor ≤ 9) × (l .code ≤ 999)
-response-one fixed (grammar.head.message e k c s b) = status-one fixed k
+response-one fixed (grammar.head.message e k c b) = status-one fixed k
 
 version-same : (u v : Version) → u .major ≡ 1 → v .major ≡ 1 → u .minor ≡ v .minor → u ≡ v
 version-same u v h i e = ap (λ y. record { major = y; minor = u .minor }) (h ∙ sym i) ∙ ap (λ y. record { major = v .major; minor = y }) e

@@ -6,6 +6,7 @@ pub mod Where
 pub mod SoFar
 pub mod MoreSlots
 pub mod Derivation
+pub mod Ignored
 pub mod Rows
 pub mod RowsStay
 pub mod RoundTrip

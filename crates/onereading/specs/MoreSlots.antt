@@ -11,7 +11,6 @@ use Rattle.reader.specs.Machine.{Step, runAt}
 use Rattle.reader.specs.Seq.{first}
 use Rattle.reader.specs.Answer.{Answer, got, short, bad, answer, verdict, retold, rounds}
 use Rattle.reader.specs.Tests.{split}
-use Rattle.gaps.specs.Gap.{gapEnd, end-skipped}
 use Rattle.rules.specs.Rules.{Rules, default}
 use Rattle.parts.specs.declared.Error.the-variants.{TooManyHeaders}
 use Rattle.parts.specs.declared.Fault.{Fault}
@@ -19,24 +18,23 @@ use Rattle.parts.specs.Answers.{fault}
 use Rattle.parts.specs.declared.Passed.{Passed}
 use Rattle.parts.specs.EmptyLines.{start}
 use Rattle.fields.specs.declared.Header.{Header}
-use Rattle.fields.specs.Line.{Kind, header, end, line}
+use Rattle.fields.specs.Line.{Kind, header, end, ignored}
 use Rattle.blocks.specs.declared.Block.{Block}
-use Rattle.blocks.specs.Block.{Blocks, taken, block, block-line}
+use Rattle.blocks.specs.Block.{Blocks, taken, nextLine, block, block-next}
 use Rattle.blocks.specs.Block as blocks
 use Rattle.requestline.specs.declared.RequestLine.{RequestLine}
 use Rattle.requestline.specs.RequestLine as requests
 use Rattle.statusline.specs.declared.StatusLine.{StatusLine}
 use Rattle.statusline.specs.StatusLine as statuses
-use Rattle.heads.specs.Head.{Heads, blanksBefore, section, section-block, over, headed, head-parts, given, Told}
+use Rattle.heads.specs.Head.{Heads, over, headed, head-parts, given, Told}
 use Rattle.heads.specs.Head as heads
 use Rattle.heads.specs.Calls.{request, response}
-use Rattle.agreement.specs.Fields.{line-within}
 use Rattle.reader.specs.Known.{knownOf}
 use Rattle.agreement.specs.Exactly.{given-over, line-over}
 use Rattle.agreement.specs.Kept.{told-bad, told-line}
 use Rattle.agreement.specs.Calls.{alone-told}
 use Rattle.onereading.specs.Statements.{MoreSlots}
-use Rattle.onereading.specs.Blocks.{Starts, starts-refl, block-keeps}
+use Rattle.onereading.specs.Blocks.{Starts, starts-refl, next-within, block-keeps}
 use Rattle.onereading.specs.Stays.{told-same, first-headers}
 
 -- the second answer has more room: it is the same, unless the first had too little
@@ -49,32 +47,31 @@ module _ (r : Rules) (n n′ : ℕ) (h : n ≤ n′) (xs : List ℕ) where
   abbrev behind : ℕ → List Header → Answer (Unit {0}) Kind Fault → Blocks
   behind n hs a = rounds (retold (λ _. hs) (taken n hs) (λ e. (e, hs)) a) (λ hs′ q. block r n hs′ xs q)
 
-  room-line : (hs : List Header) (p : ℕ) → ((g : Header) (q : ℕ) → p + 1 ≤ q → q ≤ length xs → Roomier (block r n (hs ++ (g ∷ [])) xs q) (block r n′ (hs ++ (g ∷ [])) xs q)) → (a : Answer (Unit {0}) Kind Fault) → line r xs p ≡ a → Starts hs (blocks.given (behind n′ hs a)) → Roomier (behind n hs a) (behind n′ hs a)
+  abbrev Room : List Header → ℕ → Type 0
+  Room hs q = Roomier (block r n hs xs q) (block r n′ hs xs q)
+
+  room-line : (hs : List Header) (p : ℕ) → ((hs′ : List Header) (q : ℕ) → p + 1 ≤ q → q ≤ length xs → Room hs′ q) → (a : Answer (Unit {0}) Kind Fault) → nextLine r hs xs p ≡ a → Starts hs (blocks.given (behind n′ hs a)) → Roomier (behind n hs a) (behind n′ hs a)
   room-line hs p ih (short u) e w = same
   room-line hs p ih (bad x) e w = same
   room-line hs p ih (got end q) e w = same
+  room-line hs p ih (got ignored q) e w = let k = next-within r xs hs p q ignored e in ih hs q (k .0) (k .1)
   room-line hs p ih (got (header g) q) e w =
       split (λ v. Roomier (rounds (verdict {U = Unit {0}} (λ _. hs) (taken n hs) (λ e. (e, hs)) v q) (λ hs′ q. block r n hs′ xs q)) (behind n′ hs (got (header g) q))) (ltb (length hs) n)
-      (λ t. let k = line-within xs r n p q (header g) e in rw (lt-ltb (length hs) n′ (omega (arith, h, ltb-true (length hs) n t))) (ih g q (k .0) (k .1)))
+      (λ t. let k = next-within r xs hs p q (header g) e in rw (lt-ltb (length hs) n′ (omega (arith, h, ltb-true (length hs) n t))) (ih (hs ++ (g ∷ [])) q (k .0) (k .1)))
       (λ t. full w)
 
-  room-step : (hs : List Header) (p : ℕ) → ((g : Header) (q : ℕ) → p + 1 ≤ q → q ≤ length xs → Roomier (block r n (hs ++ (g ∷ [])) xs q) (block r n′ (hs ++ (g ∷ [])) xs q)) → Roomier (block r n hs xs p) (block r n′ hs xs p)
+  room-step : (hs : List Header) (p : ℕ) → ((hs′ : List Header) (q : ℕ) → p + 1 ≤ q → q ≤ length xs → Room hs′ q) → Room hs p
   room-step hs p ih =
-      subst (λ a. Roomier a (block r n′ hs xs p)) (sym (block-line r n hs xs p))
-      (subst (Roomier (behind n hs (line r xs p))) (sym (block-line r n′ hs xs p))
-      (room-line hs p ih (line r xs p) refl (subst (λ b. Starts hs (blocks.given b)) (block-line r n′ hs xs p) (block-keeps r n′ xs hs p))))
+      subst (λ a. Roomier a (block r n′ hs xs p)) (sym (block-next r n hs xs p))
+      (subst (Roomier (behind n hs (nextLine r hs xs p))) (sym (block-next r n′ hs xs p))
+      (room-line hs p ih (nextLine r hs xs p) refl (subst (λ b. Starts hs (blocks.given b)) (block-next r n′ hs xs p) (block-keeps r n′ xs hs p))))
 
-  room-by : (m : ℕ) (hs : List Header) (p : ℕ) → length xs ≤ p + m → Roomier (block r n hs xs p) (block r n′ hs xs p)
-  room-by zero hs p l = room-step hs p (λ g q i j. absurd (omega (arith, i, j, l)))
-  room-by (suc m) hs p l = room-step hs p (λ g q i j. room-by m (hs ++ (g ∷ [])) q (omega (arith, i, l)))
+  room-by : (m : ℕ) (hs : List Header) (p : ℕ) → length xs ≤ p + m → Room hs p
+  room-by zero hs p l = room-step hs p (λ hs′ q i j. absurd (omega (arith, i, j, l)))
+  room-by (suc m) hs p l = room-step hs p (λ hs′ q i j. room-by m hs′ q (omega (arith, i, l)))
 
   block-room : (p : ℕ) → Roomier (block r n [] xs p) (block r n′ [] xs p)
   block-room p = room-by (length xs) [] p (omega arith)
-
-  section-room : (p : ℕ) → Roomier (section r n xs p) (section r n′ xs p)
-  section-room p =
-      let g = end-skipped (blanksBefore r) xs p in
-      subst (λ y. Roomier y (section r n′ xs p)) (sym (section-block r n g)) (subst (Roomier (block r n [] xs (gapEnd (blanksBefore r) xs p))) (sym (section-block r n′ g)) (block-room (gapEnd (blanksBefore r) xs p)))
 
 module _ {K : Type 0} where
   -- the same of heads
@@ -103,8 +100,8 @@ module _ (r : Rules) (n n′ : ℕ) (h : n ≤ n′) {K S : Type 0} (m : Step S 
   head-wider : (xs : List ℕ) → Wider (heads.head r n m known s xs) (heads.head r n′ m known s xs)
   head-wider xs =
       subst (λ y. Wider y (heads.head r n′ m known s xs)) (sym (head-parts r n m known s xs))
-      (subst (Wider (headed (answer known (runAt m s xs 0)) (λ k q. over k (section r n xs q)))) (sym (head-parts r n′ m known s xs))
-      (headed-wider (answer known (runAt m s xs 0)) (λ k q. over-wider k (section-room r n n′ h xs q))))
+      (subst (Wider (headed (answer known (runAt m s xs 0)) (λ k q. over k (block r n [] xs q)))) (sym (head-parts r n′ m known s xs))
+      (headed-wider (answer known (runAt m s xs 0)) (λ k q. over-wider k (block-room r n n′ h xs q))))
 
 module _ (r : Rules) (n n′ : ℕ) (h : n ≤ n′) (s : List ℕ) {old old′ : List ℕ} {end end′ : Passed} {count count′ : ℕ} {new new′ : List ℕ} where
   pub request-roomier : {line line′ : RequestLine} → Told (request r n s) end line count old new → Told (request r n′ s) end′ line′ count′ old′ new′ → MoreSlots end end′ line line′ count count′ old′ new new′

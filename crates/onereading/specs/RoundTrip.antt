@@ -5,7 +5,7 @@ use Prim.Native.Nat.{ℕ, _*_, _/_, _≤_}
 use native.Mathlib.Omega.{arith}
 use mathlib.Core.Path.{_≡_, refl, sym, ap, subst, _∙_}
 use mathlib.Core.List.{List, _++_}
-use mathlib.Core.Bool.{false}
+use mathlib.Core.Bool.{true, false}
 use lib.ListN.{length, take, drop, length-append}
 use lib.Seq.{take-at}
 use Rattle.rules.specs.Rules.{Rules, strict, default}
@@ -258,7 +258,7 @@ module _ {s old : List ℕ} {block : Block} {new : List ℕ} (P : BlockPromise s
   headers-written W = can-write {Head′ = block-alone} (λ z k. k) (λ l fs. plain-fields fs) (λ z k w l fs h a. refl) (λ z k w l fs h a. refl) (λ w l fs. plain-block) P e (block-off refl (P .complete q e .head)) (λ w l fs. block-short) W headers-writable
 
   -- what is written is a block under strict with the same fields, and so under all rules
-  pub headers-plain : (rules : Rules) → header-block rules (block-form s block new) (fieldsIn s (block .count) new)
+  pub headers-plain : (rules : Rules) → header-block rules true (block-form s block new) (fieldsIn s (block .count) new)
   headers-plain rules = let h = P .complete q e .head in plain-block h (block-off refl h)
 
 module _ {s old : List ℕ} {block : Block} {new : List ℕ} (P : BlockPromise s old block new) {q : ℕ} (e : block .end ≡ At q) {Writable : Type 0} {out : List ℕ} {r : Writing} {out′ : List ℕ} {n : ℕ} (W : PlainPromise s Writable (block-form s block new) out r out′) (w : r ≡ Written n) (t : List ℕ) {z old′ : List ℕ} {block′ : Block} {new′ : List ℕ} (b : z ≡ take n out′ ++ t) (Q : BlockPromise z old′ block′ new′) (room : block .count ≤ length old′ / 4) where

@@ -1,8 +1,7 @@
 -- An answer never changes when more bytes arrive: what each call told on s it tells on s and anything behind it.
 -- Assumes nothing.
-use Prim.Native.Nat.{ℕ, _*_, _≤_, _<_}
+use Prim.Native.Nat.{ℕ, _*_, _≤_}
 use native.Mathlib.Omega.{arith}
-use native.Mathlib.Decide.{decLt}
 use mathlib.Core.Path.{_≡_, refl, sym, ap, subst, _∙_}
 use mathlib.Core.List.{List, [], _++_}
 use lib.ListN.{length, take, drop, length-append}
@@ -10,12 +9,9 @@ use Rattle.reader.specs.Tests.{never}
 use Rattle.reader.specs.Machine.{Step, runAt}
 use Rattle.reader.specs.Seq.{first}
 use Rattle.reader.specs.Answer.{Answer, got, short, bad, answer, lapwise}
-use Rattle.reader.specs.Chain.{nothing, reads-none}
-use Rattle.reader.specs.Skip.{Skipped}
-use Rattle.reader.specs.Branch.{fresh}
+use Rattle.reader.specs.Chain.{nothing}
 use Rattle.reader.specs.Known.{knownOf}
 use Rattle.reader.specs.Later.{Later, same, waited, later}
-use Rattle.gaps.specs.Gap.{gapEnd, end-skipped, skipped-longer}
 use Rattle.rules.specs.Rules.{Rules, default}
 use Rattle.parts.specs.declared.Fault.{Fault}
 use Rattle.parts.specs.declared.Passed.{Passed}
@@ -23,15 +19,14 @@ use Rattle.parts.specs.declared.Passed.the-variants.{At, More, Bad}
 use Rattle.parts.specs.EmptyLines.{start}
 use Rattle.fields.specs.declared.Header.{Header}
 use Rattle.blocks.specs.declared.Block.{Block}
-use Rattle.fields.specs.Line.{lineStep}
-use Rattle.blocks.specs.Block.{blockStep, block, block-line}
+use Rattle.blocks.specs.Block.{blockStep, block}
 use Rattle.blocks.specs.Block as blocks
 use Rattle.startline.specs.Answers.{tell}
 use Rattle.requestline.specs.declared.RequestLine.{RequestLine}
 use Rattle.requestline.specs.RequestLine as requests
 use Rattle.statusline.specs.declared.StatusLine.{StatusLine}
 use Rattle.statusline.specs.StatusLine as statuses
-use Rattle.heads.specs.Head.{Heads, blanksBefore, section, section-block, Known, headStep, headKnown, over, headed, head-parts, given, Told}
+use Rattle.heads.specs.Head.{Heads, Known, headStep, headKnown, over, headed, head-parts, given, Told}
 use Rattle.heads.specs.Head as heads
 use Rattle.heads.specs.Calls.{request, response}
 use Rattle.chunks.specs.declared.ChunkSize.{ChunkSize}
@@ -87,29 +82,10 @@ module _ {K : Type 0} where
     headers = first-headers s T U;
   }
 
--- a block behind the blanks that may stand before it: where they reach the end of the input nothing is given yet
-section-grows : (r : Rules) (n : ℕ) (xs ys : List ℕ) (q : ℕ) → Starts (blocks.given (section r n xs q)) (blocks.given (section r n (xs ++ ys) q))
-section-grows r n xs ys q = by (decLt e (length xs))
-  where
-    e : ℕ
-    e = gapEnd (blanksBefore r) xs q
-
-    g : Skipped (blanksBefore r) xs q e
-    g = end-skipped (blanksBefore r) xs q
-
-    by : Dec (e < length xs) → Starts (blocks.given (section r n xs q)) (blocks.given (section r n (xs ++ ys) q))
-    by (yes h) =
-        subst (λ y. Starts (blocks.given y) (blocks.given (section r n (xs ++ ys) q))) (sym (section-block r n g))
-        (subst (λ y. Starts (blocks.given (block r n [] xs e)) (blocks.given y)) (sym (section-block r n (skipped-longer ys g h))) (block-grows r n xs ys [] e))
-    by (no h) =
-        let waits : block r n [] xs e ≡ short [] = block-line r n [] xs e ∙ rw (← reads-none (lineStep r) fresh xs e (omega arith)) in
-        let none : blocks.given (section r n xs q) ≡ [] = ap blocks.given (section-block r n g ∙ waits) in
-        subst (λ y. Starts y (blocks.given (section r n (xs ++ ys) q))) (sym none) (record { more = _; whole = refl })
-
 -- a head by its line and its block
 module _ (r : Rules) (n : ℕ) {K S : Type 0} (m : Step S K (Fault × K)) (known : S → K) (s : S) where
-  fields-grow : (xs ys : List ℕ) {a b : Answer K K (Fault × K)} → Later a b → Starts (given (headed a (λ k q. over k (section r n xs q)))) (given (headed b (λ k q. over k (section r n (xs ++ ys) q))))
-  fields-grow xs ys (same {a = got k q}) = subst (λ y. Starts y (given (over k (section r n (xs ++ ys) q)))) (sym (given-over k (section r n xs q))) (subst (Starts (blocks.given (section r n xs q))) (sym (given-over k (section r n (xs ++ ys) q))) (section-grows r n xs ys q))
+  fields-grow : (xs ys : List ℕ) {a b : Answer K K (Fault × K)} → Later a b → Starts (given (headed a (λ k q. over k (block r n [] xs q)))) (given (headed b (λ k q. over k (block r n [] (xs ++ ys) q))))
+  fields-grow xs ys (same {a = got k q}) = subst (λ y. Starts y (given (over k (block r n [] (xs ++ ys) q)))) (sym (given-over k (block r n [] xs q))) (subst (Starts (blocks.given (block r n [] xs q))) (sym (given-over k (block r n [] (xs ++ ys) q))) (block-grows r n xs ys [] q))
   fields-grow xs ys (same {a = short k}) = record { more = []; whole = refl }
   fields-grow xs ys (same {a = bad x}) = record { more = []; whole = refl }
   fields-grow xs ys waited = record { more = _; whole = refl }
@@ -117,7 +93,7 @@ module _ (r : Rules) (n : ℕ) {K S : Type 0} (m : Step S K (Fault × K)) (known
   head-fields : (xs ys : List ℕ) → Starts (given (heads.head r n m known s xs)) (given (heads.head r n m known s (xs ++ ys)))
   head-fields xs ys =
       subst (λ y. Starts (given y) (given (heads.head r n m known s (xs ++ ys)))) (sym (head-parts r n m known s xs))
-      (subst (λ y. Starts (given (headed (answer known (runAt m s xs 0)) (λ k q. over k (section r n xs q)))) (given y)) (sym (head-parts r n m known s (xs ++ ys)))
+      (subst (λ y. Starts (given (headed (answer known (runAt m s xs 0)) (λ k q. over k (block r n [] xs q)))) (given y)) (sym (head-parts r n m known s (xs ++ ys)))
       (fields-grow xs ys (later known m s xs ys 0)))
 
   pub head-stays : (Same : K → K → Type 0) (xs ys : List ℕ) → Same (knownOf (answer known (runAt m s xs 0))) (knownOf (answer known (runAt m s (xs ++ ys) 0))) → {end end′ : Passed} {line line′ : K} {count count′ : ℕ} {old old′ new new′ : List ℕ} → Told (heads.head r n m known s xs) end line count old new → Told (heads.head r n m known s (xs ++ ys)) end′ line′ count′ old′ new′ → HeadStays Same end end′ line line′ count count′ old′ new new′
@@ -142,7 +118,7 @@ alone-later waited = waited
 
 pub headers-stays : (n : ℕ) (s t : List ℕ) {r r′ : Block} {old old′ new new′ : List ℕ} → blocks.Told (block default n [] s 0) r old new → blocks.Told (block default n [] (s ++ t) 0) r′ old′ new′ → HeadStays NoLine (r .end) (r′ .end) tt tt (r .count) (r′ .count) old′ new new′
 headers-stays n s t T U =
-    stays NoLine (alone-later (later (lapwise (λ hs _. hs)) (blockStep default n) ([], fresh) s t 0)) tt
+    stays NoLine (alone-later (later (lapwise (λ hs _. hs)) (blockStep default n) ([], first tt) s t 0)) tt
     (subst (λ y. Starts y (given (alone (block default n [] (s ++ t) 0)))) (sym (given-over tt (block default n [] s 0))) (subst (Starts (blocks.given (block default n [] s 0))) (sym (given-over tt (block default n [] (s ++ t) 0))) (block-grows default n s t [] 0)))
     (alone-told T) (alone-told U)
 

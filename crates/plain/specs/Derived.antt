@@ -5,27 +5,33 @@ use Prim.Native.Nat.{ℕ, _+_, _-_, _*_, _/_, _%_}
 use native.Mathlib.Omega.{arith}
 use mathlib.Core.Path.{_≡_, refl, sym, ap, subst, _∙_}
 use mathlib.Core.List.{List, [], _∷_, _++_, append-nil}
-use mathlib.Core.Bool.{true, false, false≢true}
-use Rattle.octets.specs.Grammar.{Range, DIGIT, text}
+use mathlib.Core.Bool.{Bool, true, false, false≢true}
+use Rattle.octets.specs.Grammar.{Range, DIGIT, blank, text}
 use Rattle.octets.specs.Grammar as bytes
+use Rattle.octets.specs.Class.{isBlank}
+use Rattle.octets.specs.Ties.{blank-is-blank, token-is-tchar}
+use Rattle.octets.specs.Outside.{differs, cr-no-blank, token-no-blank}
 use Rattle.rules.specs.Rules.{Rules, strict, default}
-use Rattle.grammar.specs.Rows.{Some}
+use Rattle.grammar.specs.Rows.{Some, some}
 use Rattle.grammar.specs.Fields.{Field}
 use Rattle.grammar.specs.Message.{space, colon, CRLF, crlf, Version, HTTP-name, HTTP-version, one-zero, one-one, request-target, RequestLine, status-code, reason-phrase, StatusLine, no-space-left, status-line, header-block, request-head, response-head}
 use Rattle.grammar.specs.Message as grammar
 use Rattle.plain.specs.Plain.{OneLine, plain-version, plain-code, plain-fields, plain-request, plain-response}
 use Rattle.plain.specs.OneLine.{one-line-value}
 
--- a block whose values stand on one line each, whatever its line ends and blanks were
-pub plain-block : {r s : Rules} {w : List ℕ} {fs : List Field} → header-block r w fs → OneLine fs → header-block s (plain-fields fs) fs
-plain-block (grammar.header-block.end e) u = grammar.header-block.end crlf
-plain-block {s = s} (grammar.header-block.field {fs = fs} (grammar.field-line.line {n = n} {v = v} h g o k t) e b) u =
-    subst (λ y. header-block s (y ++ CRLF ++ plain-fields fs) (record { name = n; value = v } ∷ fs)) (append-nil (n ++ [] ++ colon ++ space ++ v) ∙ ap (λ y. y ++ colon ++ space ++ v) (append-nil n))
-    (grammar.header-block.field (grammar.field-line.line h grammar.behind-name.nothing (grammar.around-value.more (bytes.blank.space refl) grammar.around-value.none) (grammar.value-lines.one (one-line-value k (u .0))) grammar.around-value.none) crlf (plain-block b (u .1)))
+-- plain fields begin with a name or with CR, and so with no blank
+plain-no-blank : {r : Rules} {first : Bool} {w : List ℕ} {fs : List Field} → header-block r first w fs → (b : ℕ) (u : List ℕ) → plain-fields fs ≡ b ∷ u → blank b → ⊥
+plain-no-blank (grammar.header-block.end c d) b u e x = differs isBlank cr-no-blank (blank-is-blank b .1 x) (cc)
+plain-no-blank (grammar.header-block.field c (grammar.field-line.line (some {b = a} h m) g o v t) d i k) b u e x = differs isBlank (token-no-blank a (token-is-tchar a .1 h)) (blank-is-blank b .1 x) (cc)
+plain-no-blank (grammar.header-block.ignored t c l o k) b u e x = plain-no-blank k b u e x
 
--- a start line, CR LF and a block
-plain-head : {s : Rules} {L : Type 0} {A : List ℕ → L → Type 0} (w : List ℕ) {l : L} {b : List ℕ} {fs : List Field} → A w l → header-block s b fs → grammar.head s A (w ++ CRLF ++ b) l fs
-plain-head {s} {A = A} w {l = l} {b = b} {fs = fs} h k = subst (λ y. grammar.head s A (y ++ b) l fs) (append-nil (w ++ CRLF)) (grammar.head.message grammar.empty-lines.none h crlf grammar.before-first-name.nothing k)
+-- a block whose values stand on one line each, whatever its line ends, blanks and ignored lines were
+pub plain-block : {r s : Rules} {first again : Bool} {w : List ℕ} {fs : List Field} → header-block r first w fs → OneLine fs → header-block s again (plain-fields fs) fs
+plain-block (grammar.header-block.end c d) u = grammar.header-block.end grammar.before-first-name.nothing crlf
+plain-block {s = s} {again = again} (grammar.header-block.field {fs = fs} c (grammar.field-line.line {n = n} {v = v} h g o k t) d i b) u =
+    subst (λ y. header-block s again (y ++ CRLF ++ plain-fields fs) (record { name = n; value = v } ∷ fs)) (append-nil (n ++ [] ++ colon ++ space ++ v) ∙ ap (λ y. y ++ colon ++ space ++ v) (append-nil n))
+    (grammar.header-block.field grammar.before-first-name.nothing (grammar.field-line.line h grammar.behind-name.nothing (grammar.around-value.more (bytes.blank.space refl) grammar.around-value.none) (grammar.value-lines.one (one-line-value k (u .0))) grammar.around-value.none) crlf (λ _. plain-no-blank b) (plain-block b (u .1)))
+plain-block (grammar.header-block.ignored t c l o k) u = plain-block k u
 
 digit-again : {a : ℕ} → DIGIT a → 0x30 + (a - 0x30) ≡ a
 digit-again h = omega (arith, h .low)
@@ -57,7 +63,7 @@ target-default (grammar.request-target.any t h u) = grammar.request-target.any r
 
 -- from any rules to any others that take the target and the version
 request-under : {r s : Rules} {w : List ℕ} {l : RequestLine} {fs : List Field} → request-head r w l fs → OneLine fs → (request-target r (l .target) → request-target s (l .target)) → ((v : List ℕ) → HTTP-version r v (l .version) → HTTP-version s (plain-version (l .version)) (l .version)) → request-head s (plain-request l fs) l fs
-request-under (grammar.head.message e (grammar.request-line.line {m = a} {t = d} {v = w} {n = n} m x t y v) c s b) u f g = plain-head (a ++ space ++ d ++ space ++ plain-version n) (grammar.request-line.line m grammar.delimiter.one (f t) grammar.delimiter.one (g w v)) (plain-block b u)
+request-under (grammar.head.message e (grammar.request-line.line {v = w} m x t y v) c b) u f g = grammar.head.message grammar.empty-lines.none (grammar.request-line.line m grammar.delimiter.one (f t) grammar.delimiter.one (g w v)) crlf (plain-block b u)
 
 module _ {r : Rules} {w : List ℕ} {l : RequestLine} {fs : List Field} (u : OneLine fs) where
   -- under the rules of the head itself, whatever they are
@@ -118,7 +124,7 @@ status-plain (grammar.status-line.code-ends {v = a} {c = b} t v x c) f g i j = n
 -- from any rules to any others that take the line's parts
 response-under : {r s : Rules} {w : List ℕ} {l : StatusLine} {fs : List Field} → response-head r w l fs → OneLine fs → ((v : List ℕ) → HTTP-version r v (l .version) → HTTP-version s (plain-version (l .version)) (l .version)) →
     ((c : List ℕ) → status-code r c (l .code) → status-code s (plain-code (l .code)) (l .code)) → (r .obs-reason ≡ false → Some text (l .reason) → reason-phrase s (l .reason) (l .reason)) → (no-space-left r (l .reason) → no-space-left s (l .reason)) → response-head s (plain-response l fs) l fs
-response-under (grammar.head.message {l = l} e h c n b) u f g i j = plain-head (plain-version (l .version) ++ space ++ plain-code (l .code) ++ space ++ l .reason) (status-plain h f g i j) (plain-block b u)
+response-under (grammar.head.message e h c b) u f g i j = grammar.head.message grammar.empty-lines.none (status-plain h f g i j) crlf (plain-block b u)
 
 -- where one space alone is a delimiter, a reason may begin with any
 one-space : (s : Rules) {w : List ℕ} → s .spaces-in-status-line ≡ false → no-space-left s w

@@ -4,7 +4,7 @@ use Prim.Native.Nat.{ℕ}
 use native.Mathlib.Omega.{arith}
 use mathlib.Core.Path.{_≡_, refl, sym, subst, _∙_}
 use mathlib.Core.List.{List, [], _∷_, _++_, append-nil}
-use mathlib.Core.Bool.{false, false≢true}
+use mathlib.Core.Bool.{Bool, false, false≢true}
 use Rattle.octets.specs.Grammar.{field-vchar, text}
 use Rattle.octets.specs.Grammar as bytes
 use Rattle.rules.specs.Rules.{Rules}
@@ -75,9 +75,10 @@ module _ {r : Rules} (off : r .multiline-headers ≡ false) where
   field-off : {w : List ℕ} {f : Field} → field-line r w f → one-line (f .value)
   field-off (grammar.field-line.line n s o v t) = value-off v
 
-  pub block-off : {w : List ℕ} {fs : List Field} → header-block r w fs → OneLine fs
-  block-off (grammar.header-block.end e) = tt
-  block-off (grammar.header-block.field f e b) = (field-off f, block-off b)
+  pub block-off : {first : Bool} {w : List ℕ} {fs : List Field} → header-block r first w fs → OneLine fs
+  block-off (grammar.header-block.end c d) = tt
+  block-off (grammar.header-block.field c f d o k) = (field-off f, block-off k)
+  block-off (grammar.header-block.ignored t c l o k) = block-off k
 
   pub head-off : {L : Type 0} {A : List ℕ → L → Type 0} {w : List ℕ} {l : L} {fs : List Field} → head r A w l fs → OneLine fs
-  head-off (grammar.head.message e k c s b) = block-off b
+  head-off (grammar.head.message e k c b) = block-off b

@@ -24,10 +24,11 @@ delimiter-long grammar.delimiter.one = omega arith
 delimiter-long (grammar.delimiter.more h k) = omega arith
 
 module _ {r : Rules} where
-  pub block-short : {w : List ℕ} {fs : List Field} → header-block r w fs → length (plain-fields fs) ≤ length w * 2
-  block-short (grammar.header-block.end e) = omega (arith, ends-long e)
-  block-short (grammar.header-block.field {w = w} {e = e} {b = b} {f = f} {fs = fs} l d k) =
-      omega (arith, field-room l, field-long l, ends-long d, block-short k, length-append (plain-field f) (plain-fields fs), length-append (w ++ e) b, length-append w e)
+  pub block-short : {first : Bool} {w : List ℕ} {fs : List Field} → header-block r first w fs → length (plain-fields fs) ≤ length w * 2
+  block-short (grammar.header-block.end {s = s} {e = e} c d) = omega (arith, ends-long d, length-append s e)
+  block-short (grammar.header-block.field {s = s} {w = w} {e = e} {b = b} {f = f} {fs = fs} c l d o k) =
+      omega (arith, field-room l, field-long l, ends-long d, block-short k, length-append (plain-field f) (plain-fields fs), length-append s (w ++ e ++ b), length-append (w ++ e) b, length-append w e)
+  block-short (grammar.header-block.ignored {s = s} {w = w} {b = b} t c l o k) = omega (arith, block-short k, length-append s (w ++ b), length-append w b)
 
   version-eight : {w : List ℕ} {v : Version} → HTTP-version r w v → length w ≡ 8
   version-eight grammar.HTTP-version.one-zero = refl
@@ -60,9 +61,9 @@ module _ {r : Rules} where
   status-line-long (grammar.status-line.code-ends {v = v} {d = d} {c = c} t a x b) = omega (arith, version-eight a, code-three b, delimiter-long x, length-append (v ++ d) c, length-append v d)
 
   pub request-short : {w : List ℕ} {l : RequestLine} {fs : List Field} → request-head r w l fs → length (plain-request l fs) ≤ length w * 2
-  request-short (grammar.head.message {e = e} {w = w} {c = c} {s = s} {b = b} {l = l} {fs = fs} x d y g k) =
-      omega (arith, request-line-room d, ends-long y, block-short k, length-append (plain-request-line l) (plain-fields fs), length-append (e ++ w ++ c ++ s) b, length-append (e ++ w ++ c) s, length-append (e ++ w) c, length-append e w)
+  request-short (grammar.head.message {e = e} {w = w} {c = c} {b = b} {l = l} {fs = fs} x d y k) =
+      omega (arith, request-line-room d, ends-long y, block-short k, length-append (plain-request-line l) (plain-fields fs), length-append (e ++ w ++ c) b, length-append (e ++ w) c, length-append e w)
 
   pub response-short : {w : List ℕ} {l : StatusLine} {fs : List Field} → response-head r w l fs → length (plain-response l fs) ≤ length w * 2
-  response-short (grammar.head.message {e = e} {w = w} {c = c} {s = s} {b = b} {l = l} {fs = fs} x d y g k) =
-      omega (arith, status-line-room d, status-line-long d, ends-long y, block-short k, length-append (plain-status-line l) (plain-fields fs), length-append (e ++ w ++ c ++ s) b, length-append (e ++ w ++ c) s, length-append (e ++ w) c, length-append e w)
+  response-short (grammar.head.message {e = e} {w = w} {c = c} {b = b} {l = l} {fs = fs} x d y k) =
+      omega (arith, status-line-room d, status-line-long d, ends-long y, block-short k, length-append (plain-status-line l) (plain-fields fs), length-append (e ++ w ++ c) b, length-append (e ++ w) c, length-append e w)

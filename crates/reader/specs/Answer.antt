@@ -1,8 +1,9 @@
 -- What a run answers, told without its states: what a function over the whole input can say of it.
 -- Assumes nothing.
-use mathlib.Core.Path.{_≡_, refl, ap, _∙_}
+use mathlib.Core.Path.{_≡_, refl, sym, ap, _∙_}
 use mathlib.Core.List.{List, [], _∷_, _++_}
 use Prim.Native.Nat.{ℕ, _+_}
+use native.Mathlib.Omega.{arith}
 use Rattle.reader.specs.Machine.{Move, keep, give, before, refuse, Run, more, gave, refused, Step, after, run, runAt}
 use Rattle.reader.specs.Laws.{refused-stays}
 use Rattle.reader.specs.Judged.{Verdict, pass, fail, given, left, moved, judged}
@@ -16,6 +17,12 @@ pub data Answer (U A F : Type 0) : Type 0 where
   short : U → Answer U A F
   bad : F → Answer U A F
 
+short-not-got : {U A F : Type 0} {u : U} {a : A} {q : ℕ} → _≡_ {A = Answer U A F} (short u) (got a q) → ⊥
+short-not-got e = let z : _≡_ {A = ℕ} 0 1 = cc in omega arith
+
+short-not-bad : {U A F : Type 0} {u : U} {x : F} → _≡_ {A = Answer U A F} (short u) (bad x) → ⊥
+short-not-bad e = let z : _≡_ {A = ℕ} 0 1 = cc in omega arith
+
 -- what a run answers, where `known` tells what is known in a state
 module _ {S U A F : Type 0} (known : S → U) where
   abbrev pub answer : Run S A F → Answer U A F
@@ -28,6 +35,11 @@ module _ {S U A F : Type 0} (known : S → U) where
   answered (more s) e = cc
   answered (gave b p) e = cc
   answered (refused x p) e = cc
+
+  pub answered-short : (r : Run S A F) {u : U} → answer r ≡ short u → (s : S) × (r ≡ more s)
+  answered-short (more s) e = (s, refl)
+  answered-short (gave b p) e = absurd (short-not-got (sym e))
+  answered-short (refused x p) e = absurd (short-not-bad (sym e))
 
   pub answered-bad : (r : Run S A F) {e : F} → answer r ≡ bad e → (q : ℕ) × (r ≡ refused e q)
   answered-bad (more s) e = (0, cc)

@@ -113,7 +113,7 @@ module _ {S A B E F : Type 0} (f : A → B) (g : E → F) (m : Step S A E) where
   pub takes-judged : Takes m → Takes (judged (λ a. pass (f a)) g m)
   takes-judged T s p b = judged-taken (m s p b) (T s p b)
 
-lifted-taken : {S T A F : Type 0} (f : S → T) (v : Move S A F) → Taken v → Taken (lifted f v)
+pub lifted-taken : {S T A F : Type 0} (f : S → T) (v : Move S A F) → Taken v → Taken (lifted f v)
 lifted-taken f (keep s) t = tt
 lifted-taken f (give a) t = tt
 lifted-taken f (before a) t = t

@@ -11,6 +11,7 @@ pub mod Chain
 pub mod Branch
 pub mod Tests
 pub mod Refusals
+pub mod Rescued
 pub mod Known
 pub mod Later
 pub mod Decided

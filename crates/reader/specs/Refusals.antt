@@ -34,6 +34,16 @@ module _ {S A F : Type 0} (P : ℕ → F → Type 0) (m : Step S A F) (R : Refus
   refused-is [] s p e q u = never cc
   refused-is (b ∷ bs) s p e q u = refused-step bs p e q (m s p b) (R s p b) (λ s′. refused-is bs s′ (p + 1) e q) u
 
+-- and so does all that follows from it
+refusal-as : {S A F : Type 0} {P Q : F → Type 0} → ((x : F) → P x → Q x) → (v : Move S A F) → Refusal P v → Refusal Q v
+refusal-as f (keep s) h = tt
+refusal-as f (give a) h = tt
+refusal-as f (before a) h = tt
+refusal-as f (refuse e) h = f e h
+
+pub refuses-as : {S A F : Type 0} (P Q : ℕ → F → Type 0) → ((p : ℕ) (x : F) → P p x → Q p x) → (m : Step S A F) → Refuses P m → Refuses Q m
+refuses-as P Q f m R s p b = refusal-as (f p) (m s p b) (R s p b)
+
 -- a verdict that always passes
 pub passes : {A B F : Type 0} (Q : ℕ → F → Type 0) (f : A → B) (a : A) (p : ℕ) (x : F) → pass (f a) ≡ fail x → Q p x
 passes Q f a p x e = never cc

@@ -9,6 +9,7 @@ use expected::InStatusLine;
 use page::place;
 use parts::Error;
 use requestline::RequestLine;
+use rules::LineSettings;
 use rules::Settings;
 use startline::KnownNumber;
 use startline::KnownPiece;
@@ -22,13 +23,6 @@ const LF: u8 = 10;
 const CR: u8 = 13;
 
 const SPACE: u8 = 32;
-
-// Where blanks may stand in the lines of headers: before the first name, between a name and its colon, and before what goes on with a value.
-struct Blanks {
-    before_first_name: bool,
-    after_name: bool,
-    before_more: bool,
-}
 
 // What the start line told by then says which part of it the byte stands in. A CR is the start of a line's end, wherever it is read.
 pub fn expected(
@@ -53,10 +47,11 @@ pub fn expected(
                 s,
                 position,
                 reading.count,
-                Blanks {
-                    before_first_name: false,
-                    after_name: false,
-                    before_more: false,
+                LineSettings {
+                    space_before_first_name: false,
+                    spaces_after_name: false,
+                    multiline_headers: false,
+                    ignore_invalid_headers: false,
                 },
             ),
         },
@@ -103,10 +98,11 @@ fn in_request(
             s,
             position,
             count,
-            Blanks {
-                before_first_name: settings.space_before_first_name,
-                after_name: false,
-                before_more: false,
+            LineSettings {
+                space_before_first_name: settings.space_before_first_name,
+                spaces_after_name: false,
+                multiline_headers: false,
+                ignore_invalid_headers: settings.ignore_invalid_headers_in_requests,
             },
         ),
     }
@@ -175,10 +171,11 @@ fn in_response(
             s,
             position,
             count,
-            Blanks {
-                before_first_name: settings.space_before_first_name,
-                after_name: settings.spaces_after_name,
-                before_more: settings.multiline_headers,
+            LineSettings {
+                space_before_first_name: settings.space_before_first_name,
+                spaces_after_name: settings.spaces_after_name,
+                multiline_headers: settings.multiline_headers,
+                ignore_invalid_headers: settings.ignore_invalid_headers_in_responses,
             },
         ),
     }
@@ -204,27 +201,49 @@ fn behind_code(line: &[u8]) -> InStatusLine {
     }
 }
 
-fn in_header(error: Error, s: &[u8], position: usize, count: usize, blanks: Blanks) -> Expected {
+fn in_header(
+    error: Error,
+    s: &[u8],
+    position: usize,
+    count: usize,
+    settings: LineSettings,
+) -> Expected {
     Expected::Header(
         match error {
-            Error::HeaderValue => InHeader::Value,
             Error::TooManyHeaders => InHeader::NoMore,
-            _ => in_name(
-                line_before(s, position),
-                byte_before(s, position),
-                count,
-                blanks,
-            ),
+            _ => in_line(error, s, position, count, settings),
         },
     )
 }
 
-// Where there are only blanks before the byte, if any, no name has begun.
-fn in_name(line: &[u8], before: u8, count: usize, blanks: Blanks) -> InHeader {
-    if skips::skip_blank(line, 0) == line.len() {
-        return line_start(count, blanks);
+// Where lines that are no headers are passed over, no byte of a name or a value is wrong but a NUL.
+fn in_line(
+    error: Error,
+    s: &[u8],
+    position: usize,
+    count: usize,
+    settings: LineSettings,
+) -> InHeader {
+    if settings.ignore_invalid_headers {
+        return InHeader::NoNul;
     }
-    if !blanks.after_name {
+    match error {
+        Error::HeaderValue => InHeader::Value,
+        _ => in_name(
+            line_before(s, position),
+            byte_before(s, position),
+            count,
+            settings,
+        ),
+    }
+}
+
+// Where there are only blanks before the byte, if any, no name has begun.
+fn in_name(line: &[u8], before: u8, count: usize, settings: LineSettings) -> InHeader {
+    if skips::skip_blank(line, 0) == line.len() {
+        return line_start(count, settings);
+    }
+    if !settings.spaces_after_name {
         return InHeader::Name;
     }
     if (before == SPACE) | (before == TAB) {
@@ -234,14 +253,14 @@ fn in_name(line: &[u8], before: u8, count: usize, blanks: Blanks) -> InHeader {
     }
 }
 
-fn line_start(count: usize, blanks: Blanks) -> InHeader {
+fn line_start(count: usize, settings: LineSettings) -> InHeader {
     if count == 0 {
-        if blanks.before_first_name {
+        if settings.space_before_first_name {
             return InHeader::SpacedStart;
         }
         return InHeader::Start;
     }
-    if blanks.before_more {
+    if settings.multiline_headers {
         InHeader::StartOrMore
     } else {
         InHeader::Start

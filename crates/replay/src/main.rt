@@ -15,7 +15,7 @@ const MOST_HEADERS: u64 = 16;
 
 const NUMBERS: usize = 72;
 
-// Settings are eight bits, some of which have no meaning yet.
+// Settings are eight bits.
 const ALL_SETTINGS: u64 = 255;
 
 // The longest input of a row.

@@ -36,6 +36,8 @@ pub record Rules : Type 0 where
   pub spaces-after-name : Bool
   -- a line that begins with a blank goes on with the value of the line before it
   pub multiline-headers : Bool
+  -- a line that is no field line is passed over, and says nothing
+  pub ignore-invalid-headers : Bool
 
 -- the RFCs' grammar alone, without what the prose of RFC 9112, section 2.2, lets a recipient do besides (lf-alone, empty-lines); of a target
 -- no more is asked than that it is visible, and a code has one of its classes
@@ -57,6 +59,7 @@ strict = record {
   space-before-first-name = false;
   spaces-after-name = false;
   multiline-headers = false;
+  ignore-invalid-headers = false;
 }
 
 -- what httparse reads with no setting on
@@ -78,4 +81,5 @@ default = record {
   space-before-first-name = false;
   spaces-after-name = false;
   multiline-headers = false;
+  ignore-invalid-headers = false;
 }

@@ -7,8 +7,8 @@ use Rattle.rules.specs.declared.LineSettings.{LineSettings}
 use Rattle.rules.specs.Rules.{Rules, default}
 
 -- the default but for the rules that settings change, in their order in Rules
-abbrev pub changed : Bool → Bool → Bool → Bool → Bool → Bool → Rules
-changed t q s f a m = record {
+abbrev pub changed : Bool → Bool → Bool → Bool → Bool → Bool → Bool → Rules
+changed t q s f a m i = record {
   lf-alone = default .lf-alone;
   empty-lines = default .empty-lines;
   any-target = t;
@@ -25,19 +25,20 @@ changed t q s f a m = record {
   space-before-first-name = f;
   spaces-after-name = a;
   multiline-headers = m;
+  ignore-invalid-headers = i;
 }
 
 -- of a request
 abbrev pub requestRules : Settings → Rules
-requestRules s = changed (not (s .«ascii_targets»)) (s .«spaces_in_request_line») false (s .«space_before_first_name») false false
+requestRules s = changed (not (s .«ascii_targets»)) (s .«spaces_in_request_line») false (s .«space_before_first_name») false false (s .«ignore_invalid_headers_in_requests»)
 
 -- of a response
 abbrev pub responseRules : Settings → Rules
-responseRules s = changed true false (s .«spaces_in_status_line») (s .«space_before_first_name») (s .«spaces_after_name») (s .«multiline_headers»)
+responseRules s = changed true false (s .«spaces_in_status_line») (s .«space_before_first_name») (s .«spaces_after_name») (s .«multiline_headers») (s .«ignore_invalid_headers_in_responses»)
 
--- of the lines of headers, behind a start line and what stands before the first name
+-- of the lines of headers, behind a start line
 abbrev pub lineRules : LineSettings → Rules
-lineRules s = changed true false false false (s .«spaces_after_name») (s .«multiline_headers»)
+lineRules s = changed true false false (s .«space_before_first_name») (s .«spaces_after_name») (s .«multiline_headers») (s .«ignore_invalid_headers»)
 
 abbrev pub off : Settings
 off = record {
@@ -47,6 +48,8 @@ off = record {
   «space_before_first_name» = false;
   «spaces_after_name» = false;
   «multiline_headers» = false;
+  «ignore_invalid_headers_in_requests» = false;
+  «ignore_invalid_headers_in_responses» = false;
 }
 
 -- with all of them off nothing has changed
@@ -69,5 +72,5 @@ pub record OthersByDefault (r : Rules) : Type 0 where
   pub no-digit : r .no-digit ≡ default .no-digit
   pub sixteen-digits : r .sixteen-digits ≡ default .sixteen-digits
 
-pub others-by-default : (t q s f a m : Bool) → OthersByDefault (changed t q s f a m)
-others-by-default t q s f a m = record { lf-alone = refl; empty-lines = refl; known-versions = refl; code-ends-line = refl; any-code = refl; obs-reason = refl; blank-behind-size = refl; any-extension = refl; no-digit = refl; sixteen-digits = refl }
+pub others-by-default : (t q s f a m i : Bool) → OthersByDefault (changed t q s f a m i)
+others-by-default t q s f a m i = record { lf-alone = refl; empty-lines = refl; known-versions = refl; code-ends-line = refl; any-code = refl; obs-reason = refl; blank-behind-size = refl; any-extension = refl; no-digit = refl; sixteen-digits = refl }

@@ -14,10 +14,16 @@ pub struct Settings {
     pub spaces_after_name: bool,
     // a line that begins with a space or tab goes on with the value before it, in responses
     pub multiline_headers: bool,
+    // a line that is no header is passed over, in requests
+    pub ignore_invalid_headers_in_requests: bool,
+    // and in responses
+    pub ignore_invalid_headers_in_responses: bool,
 }
 
 // What of it concerns the lines of headers.
 pub struct LineSettings {
+    pub space_before_first_name: bool,
     pub spaces_after_name: bool,
     pub multiline_headers: bool,
+    pub ignore_invalid_headers: bool,
 }

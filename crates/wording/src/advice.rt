@@ -101,6 +101,13 @@ fn header(page: &mut Page, at: usize, place: InHeader) -> usize {
             there
 ",
         ),
+        InHeader::NoNul => put(
+            page,
+            at,
+            b"have the sender leave that byte out; don't pass the head on, since the next program may end the line
+            there
+",
+        ),
         InHeader::NoMore => put(
             page,
             at,

@@ -12,26 +12,37 @@ pub const MULTILINE_HEADERS: u32 = 2;
 pub const SPACES_IN_REQUEST_LINE: u32 = 4;
 pub const SPACES_IN_STATUS_LINE: u32 = 8;
 pub const SPACE_BEFORE_FIRST_HEADER_NAME: u32 = 16;
+pub const IGNORE_INVALID_HEADERS_IN_RESPONSES: u32 = 32;
+pub const IGNORE_INVALID_HEADERS_IN_REQUESTS: u32 = 64;
 
 /// The bit of the setting under which a target has visible ASCII only, which httparse does not have.
 pub const ASCII_TARGETS: u32 = 128;
 
-/// The settings of httparse that Headreader has.
+/// The settings of httparse that Headreader has: all of them.
 pub const SUPPORTED: u32 = SPACES_AFTER_HEADER_NAME
     | MULTILINE_HEADERS
     | SPACES_IN_REQUEST_LINE
     | SPACES_IN_STATUS_LINE
-    | SPACE_BEFORE_FIRST_HEADER_NAME;
+    | SPACE_BEFORE_FIRST_HEADER_NAME
+    | IGNORING;
+
+/// The settings under which a line that is no header is passed over.
+pub const IGNORING: u32 = IGNORE_INVALID_HEADERS_IN_RESPONSES | IGNORE_INVALID_HEADERS_IN_REQUESTS;
 
 /// The settings of httparse that change how a call is read.
 pub fn of(call: Call) -> u32 {
     match call {
-        Call::Request => SPACES_IN_REQUEST_LINE | SPACE_BEFORE_FIRST_HEADER_NAME,
+        Call::Request => {
+            SPACES_IN_REQUEST_LINE
+                | SPACE_BEFORE_FIRST_HEADER_NAME
+                | IGNORE_INVALID_HEADERS_IN_REQUESTS
+        }
         Call::Response => {
             SPACES_AFTER_HEADER_NAME
                 | MULTILINE_HEADERS
                 | SPACES_IN_STATUS_LINE
                 | SPACE_BEFORE_FIRST_HEADER_NAME
+                | IGNORE_INVALID_HEADERS_IN_RESPONSES
         }
         Call::Headers | Call::ChunkSize => DEFAULT,
     }

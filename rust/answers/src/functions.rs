@@ -98,6 +98,14 @@ mod tests {
                 "HR_SPACE_BEFORE_FIRST_HEADER_NAME",
                 bits::SPACE_BEFORE_FIRST_HEADER_NAME,
             ),
+            (
+                "HR_IGNORE_INVALID_HEADERS_IN_RESPONSES",
+                bits::IGNORE_INVALID_HEADERS_IN_RESPONSES,
+            ),
+            (
+                "HR_IGNORE_INVALID_HEADERS_IN_REQUESTS",
+                bits::IGNORE_INVALID_HEADERS_IN_REQUESTS,
+            ),
             ("HR_ASCII_TARGETS", bits::ASCII_TARGETS),
         ];
         numbers.extend(settings.map(|(name, bit)| (name, u64::from(bit))));

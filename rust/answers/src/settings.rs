@@ -140,6 +140,8 @@ mod tests {
             (bits::SPACES_IN_REQUEST_LINE, NAMES[2]),
             (bits::SPACES_IN_STATUS_LINE, NAMES[3]),
             (bits::SPACE_BEFORE_FIRST_HEADER_NAME, NAMES[4]),
+            (bits::IGNORE_INVALID_HEADERS_IN_RESPONSES, NAMES[5]),
+            (bits::IGNORE_INVALID_HEADERS_IN_REQUESTS, NAMES[6]),
             (bits::ASCII_TARGETS, ALL_OFF),
         ] {
             assert_eq!(Settings::from_bits(bit).to_string(), name);

@@ -142,6 +142,9 @@ impl Comparer {
     }
 }
 
+#[cfg(test)]
+mod ignored;
+
 /// What has a plain form, unless a value is folded.
 fn is_complete_head(case: &Case, answer: &Numbers) -> bool {
     answer.status == 0 && case.call != Call::ChunkSize
@@ -160,7 +163,7 @@ mod tests {
 
     /// Every call, complete, incomplete and refused, with written slots, free ones and a remainder,
     /// and some under settings.
-    const CASES: [Case; 22] = [
+    const CASES: [Case; 25] = [
         case(Call::Request, b"GET / HTTP/1.1\r\nA: b\r\n\r\n"),
         case(Call::Request, b"GET / HTTP/1.0\nA: b\n"),
         case(Call::Request, b"GET /\xff "),
@@ -206,6 +209,21 @@ mod tests {
             bits::SUPPORTED,
             Call::Request,
             b"GET / HTTP/1.1\n A:\nB:\nC:\n",
+        ),
+        with(
+            bits::SUPPORTED,
+            Call::Request,
+            b"GET / HTTP/1.1\n:\n A: b\nC\n\n",
+        ),
+        with(
+            bits::SUPPORTED,
+            Call::Response,
+            b"HTTP/1.1 200\nA: b\nC: \x01\n D\0",
+        ),
+        with(
+            bits::SUPPORTED,
+            Call::Response,
+            b"HTTP/1.1 200\nA:\n:\nB:\nC:\n\n",
         ),
     ];
 

@@ -158,6 +158,20 @@ const VALUES: &[&[u8]] = &[
     "\u{20ac} in UTF-8".as_bytes(),
 ];
 
+/// Lines that are no headers, without their ends.
+const INVALID_LINES: &[&[u8]] = &[
+    b":",
+    b": a value",
+    b"no colon",
+    b"two words: a",
+    b"Content-Length\x7f: 5",
+    b"Cookie: \x01",
+    b"Accept: a\x0b b: c",
+    b"caf\xe9: a",
+    b"\x01\xff (a line of more than 32 bytes): \"b\"",
+    b" : behind a blank",
+];
+
 /// What long values are filled with.
 const FILLING: &[u8] =
     b"abcdefghijklmnopqrstuvwxyzABCDEFGHIJKLMNOPQRSTUVWXYZ0123456789-_=%:;, \t\xe9";
@@ -177,15 +191,21 @@ const BODIES: &[&[u8]] = &[b"", b"", b"body", b"\r\n\r\n", b"\x00\xff"];
 /// A head of a shape, with what is left open chosen at random.
 pub fn make(shape: &Shape, random: &mut Random) -> Head {
     let mut bytes = first_line(shape, random);
-    bytes.extend(shape.blanks(bits::SPACE_BEFORE_FIRST_HEADER_NAME, random));
-    let last_line_end = random.choose(shape.line_ends);
+    // These stand before the first header, or before the end of a head that has none.
+    let mut blanks = shape.blanks(bits::SPACE_BEFORE_FIRST_HEADER_NAME, random);
+    let end = [
+        &shape.invalid_lines(random)[..],
+        random.choose(shape.line_ends),
+    ]
+    .concat();
     for left in (1..=shape.headers).rev() {
-        let rest = shape
-            .length
-            .saturating_sub(bytes.len() + last_line_end.len());
+        bytes.extend(shape.invalid_lines(random));
+        bytes.extend_from_slice(std::mem::take(&mut blanks));
+        let rest = shape.length.saturating_sub(bytes.len() + end.len());
         bytes.extend(header_line(shape, rest / left, random));
     }
-    bytes.extend_from_slice(last_line_end);
+    bytes.extend_from_slice(blanks);
+    bytes.extend(end);
     if bytes.len() < LONGEST {
         bytes.extend_from_slice(random.choose(BODIES));
     }
@@ -211,6 +231,16 @@ impl Shape {
             0 => b" ",
             _ => random.choose(SPACES),
         }
+    }
+
+    /// Lines that are no headers, where a setting passes over them.
+    fn invalid_lines(&self, random: &mut Random) -> Vec<u8> {
+        let count = match self.settings & bits::IGNORING {
+            0 => 0,
+            _ => random.choose(&[0, 0, 1, 2]),
+        };
+        let line = |_| [random.choose(INVALID_LINES), random.choose(self.line_ends)].concat();
+        (0..count).flat_map(line).collect()
     }
 
     /// What goes on with a value in further lines, where a setting allows that.

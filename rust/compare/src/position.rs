@@ -187,7 +187,7 @@ impl Found {
 mod tests {
     use super::*;
     use answers::bits::{
-        ASCII_TARGETS, DEFAULT, MULTILINE_HEADERS, SPACES_IN_REQUEST_LINE,
+        ASCII_TARGETS, DEFAULT, IGNORING, MULTILINE_HEADERS, SPACES_IN_REQUEST_LINE,
         SPACE_BEFORE_FIRST_HEADER_NAME,
     };
 
@@ -210,6 +210,9 @@ mod tests {
 
     /// Two headers, whose names begin at 13 and 20, both folded, and a byte that begins none.
     const FOLDED: &[u8] = b"HTTP/1.1 200\nA:b\n c\nD:\n\te\n:";
+
+    /// Two headers, whose names begin at 17 and 23, with lines around them that are none, and a NUL.
+    const AMONG_OTHERS: &[u8] = b"GET / HTTP/1.1\n:\nA:b\nC\nD:\nE \0";
 
     /// Six headers of three bytes each.
     const SIX: &[u8] = b"A:\nB:\nC:\nD:\nE:\nF:\n";
@@ -301,6 +304,29 @@ mod tests {
             with(MULTILINE_HEADERS, case(Call::Response, 2, FOLDED)),
             HeadError::HeaderName,
             26,
+        ),
+        (
+            with(IGNORING, case(Call::Request, 0, AMONG_OTHERS)),
+            HeadError::TooManyHeaders,
+            17,
+        ),
+        (
+            with(IGNORING, case(Call::Request, 1, AMONG_OTHERS)),
+            HeadError::TooManyHeaders,
+            23,
+        ),
+        (
+            with(IGNORING, case(Call::Request, 2, AMONG_OTHERS)),
+            HeadError::HeaderName,
+            28,
+        ),
+        (
+            with(
+                IGNORING,
+                case(Call::Response, 1, b"HTTP/1.1 200\nA:\x01\rB\n"),
+            ),
+            HeadError::HeaderValue,
+            17,
         ),
         (case(Call::Response, 1, b"GET / X"), HeadError::Version, 0),
     ];

@@ -1,8 +1,9 @@
 //! Good starts that end in each part of a head, and the bytes that tell most behind them.
 
 use answers::bits::{
-    self, MULTILINE_HEADERS, SPACES_AFTER_HEADER_NAME, SPACES_IN_REQUEST_LINE,
-    SPACES_IN_STATUS_LINE, SPACE_BEFORE_FIRST_HEADER_NAME,
+    self, IGNORE_INVALID_HEADERS_IN_REQUESTS, IGNORE_INVALID_HEADERS_IN_RESPONSES,
+    MULTILINE_HEADERS, SPACES_AFTER_HEADER_NAME, SPACES_IN_REQUEST_LINE, SPACES_IN_STATUS_LINE,
+    SPACE_BEFORE_FIRST_HEADER_NAME,
 };
 use answers::Call;
 
@@ -15,6 +16,10 @@ pub type Place = (&'static [u8], &'static [u8]);
 
 /// A letter, a digit, all bytes with a meaning of their own, a control byte and one from 0x80 on.
 const HEAD_BYTES: &[u8] = b"a \t:\r\n\x00\x801";
+
+/// The same for the lines of headers, where a digit is as good as a letter and NUL is not as good as
+/// another control byte.
+const LINE_BYTES: &[u8] = b"a \t:\r\n\x00\x01\x80";
 
 /// Digits of every kind, the first letter that is none, and all bytes with a meaning of their own.
 const CHUNK_BYTES: &[u8] = b"0fFg \t;\r\nx";
@@ -174,6 +179,25 @@ const RESPONSE_VALUES: &[Place] = &[
     (b"HTTP/1.1 200\nA:b\nC: d\n", b"\n"),
 ];
 
+/// Within a line that is no header, behind its CR, and behind it with no header given yet and with one;
+/// behind a byte that is wrong in a value, and in a fold also behind its line end.
+const REQUEST_INVALID_LINES: &[Place] = &[
+    (b"GET / HTTP/1.1\n:", b"\nA: b\n\n"),
+    (b"GET / HTTP/1.1\r\nA b\r", b"\nC: d\r\n\r\n"),
+    (b"GET / HTTP/1.1\n:\n", b"A: b\n\n"),
+    (b"GET / HTTP/1.1\nA: b\n:\r\n", b"C: d\n\n"),
+    (b"GET / HTTP/1.1\nA: \x01", b"\nC: d\n\n"),
+];
+const RESPONSE_INVALID_LINES: &[Place] = &[
+    (b"HTTP/1.1 200\n:", b"\nA: b\n\n"),
+    (b"HTTP/1.1 200 OK\r\nA b\r", b"\nC: d\r\n\r\n"),
+    (b"HTTP/1.1 200\n:\n", b"A: b\n\n"),
+    (b"HTTP/1.1 200\nA: b\n:\r\n", b"C: d\n\n"),
+    (b"HTTP/1.1 200\nA: \x01", b"\nC: d\n\n"),
+    (b"HTTP/1.1 200\nA: b\n \x01", b"\nC: d\n\n"),
+    (b"HTTP/1.1 200\nA:\n \x01\r\n", b"C: d\n\n"),
+];
+
 /// The places where a setting would have its say if it were for requests.
 const REQUEST_NAMES: &[Place] = &[(b"GET / HTTP/1.1\r\nA", b": b\r\n\r\n")];
 const REQUEST_VALUES: &[Place] = &[(b"GET / HTTP/1.1\nA: b", b"\nC: d\n\n")];
@@ -185,10 +209,12 @@ pub fn places(call: Call, setting: u32) -> &'static [Place] {
         (Call::Request, SPACE_BEFORE_FIRST_HEADER_NAME) => REQUEST_FIRST_NAMES,
         (Call::Request, SPACES_AFTER_HEADER_NAME) => REQUEST_NAMES,
         (Call::Request, MULTILINE_HEADERS) => REQUEST_VALUES,
+        (Call::Request, IGNORE_INVALID_HEADERS_IN_REQUESTS) => REQUEST_INVALID_LINES,
         (Call::Response, SPACES_IN_STATUS_LINE) => STATUS_LINES,
         (Call::Response, SPACE_BEFORE_FIRST_HEADER_NAME) => RESPONSE_FIRST_NAMES,
         (Call::Response, SPACES_AFTER_HEADER_NAME) => RESPONSE_NAMES,
         (Call::Response, MULTILINE_HEADERS) => RESPONSE_VALUES,
+        (Call::Response, IGNORE_INVALID_HEADERS_IN_RESPONSES) => RESPONSE_INVALID_LINES,
         _ => &[],
     }
 }
@@ -204,6 +230,14 @@ pub fn telling_bytes(call: Call) -> &'static [u8] {
     match call {
         Call::ChunkSize => CHUNK_BYTES,
         _ => HEAD_BYTES,
+    }
+}
+
+/// The bytes that tell most at a place, which is in a start line or in the lines behind it.
+pub fn bytes_at((start, _): Place) -> &'static [u8] {
+    match start.trim_ascii_start().contains(&b'\n') {
+        true => LINE_BYTES,
+        false => HEAD_BYTES,
     }
 }
 
@@ -230,6 +264,18 @@ mod tests {
                 theirs::read(&case, &mut numbers);
                 let end = numbers.out.numbers()[0];
                 assert_eq!((numbers.status, end), (0, input.len() as u64), "{case}");
+            }
+        }
+    }
+
+    #[test]
+    fn lines_of_headers_have_bytes_of_their_own() {
+        for setting in bits::singles(bits::SUPPORTED) {
+            let in_line = [SPACES_IN_REQUEST_LINE, SPACES_IN_STATUS_LINE].contains(&setting);
+            for call in [Call::Request, Call::Response] {
+                for &place in places(call, setting) {
+                    assert_eq!(bytes_at(place) == HEAD_BYTES, in_line);
+                }
             }
         }
     }

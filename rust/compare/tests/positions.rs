@@ -5,7 +5,7 @@ use answers::bits::{self, ASCII_TARGETS, DEFAULT};
 use answers::{recorded, Call};
 use compare::damage::{damaged, places, slot_counts};
 use compare::heads::{jobs, lenient_shapes, make, shapes, Head, Shape};
-use compare::starts::{all_places, starts, telling_bytes, Start};
+use compare::starts::{all_places, bytes_at, starts, telling_bytes, Start};
 use compare::strings::{self, how_many, strings, with_depth};
 use compare::{on_all_cores, Case, Comparer, Random, Tally, CALLS};
 
@@ -62,7 +62,7 @@ fn recorded_inputs() {
         let call = row.query.call;
         let slots = [row.query.slots, 0, 1];
         let mut settings = usual(call).to_vec();
-        settings.push(row.query.settings.bits() & bits::SUPPORTED);
+        settings.push(row.query.settings.bits());
         settings.sort_unstable();
         settings.dedup();
         compare(call, &settings, &slots, &row.query.input, &mut comparer);
@@ -70,9 +70,9 @@ fn recorded_inputs() {
     tell("recorded inputs", &comparer.tally());
 }
 
-/// Compares all strings behind some starts, and sees that none was left out.
-fn compare_behind(call: Call, settings: &[u32], starts: &[Start]) -> Tally {
-    let (bytes, slots) = (telling_bytes(call), strings::slot_counts(call));
+/// Compares all strings over some bytes behind some starts, and sees that none was left out.
+fn compare_behind(call: Call, settings: &[u32], starts: &[Start], bytes: &[u8]) -> Tally {
+    let slots = strings::slot_counts(call);
     let tally = on_all_cores(&strings(starts, bytes), |strings| {
         let mut comparer = Comparer::of_headreader();
         strings.each(bytes, |input| {
@@ -90,7 +90,7 @@ fn all_short_strings() {
     let mut sum = Tally::default();
     for call in CALLS {
         let starts = with_depth(starts(call), DEPTH);
-        sum += compare_behind(call, usual(call), &starts);
+        sum += compare_behind(call, usual(call), &starts, telling_bytes(call));
     }
     tell("all strings behind every start", &sum);
 }
@@ -99,9 +99,10 @@ fn all_short_strings() {
 fn all_short_strings_with_settings() {
     let mut sum = Tally::default();
     for call in CALLS {
-        let places = all_places(call).into_iter();
-        let starts: Vec<Start> = places.map(|(start, _)| (start, DEPTH)).collect();
-        sum += compare_behind(call, &bits::alone_and_all(bits::of(call)), &starts);
+        let settings = bits::alone_and_all(bits::of(call));
+        for place in all_places(call) {
+            sum += compare_behind(call, &settings, &[(place.0, DEPTH)], bytes_at(place));
+        }
     }
     sum.assert_all_placed();
     println!(

@@ -43,7 +43,7 @@ fn texts() {
     let shown = ", ascii_targets: false }";
     let ours = our_texts();
     let count = |text: &String| text.matches(shown).count();
-    assert_eq!(ours.iter().map(count).sum::<usize>(), 1 + 2 * 5);
+    assert_eq!(ours.iter().map(count).sum::<usize>(), 1 + 2 * 7);
     let ours: Vec<String> = ours.iter().map(|text| text.replace(shown, " }")).collect();
     assert_eq!(ours, their_texts());
 }

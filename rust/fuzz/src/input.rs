@@ -8,7 +8,7 @@ use compare::{Case, CALLS};
 /// How many remainders there are, and so the weight of the call's choice in the first byte.
 const REMAINDERS: usize = 4;
 
-/// The settings, whose bits are those of the third byte; others have no meaning yet.
+/// The settings, whose bits are those of the third byte.
 pub const SETTINGS: u32 = SUPPORTED | ASCII_TARGETS;
 
 /// More slots than this are never lent.
@@ -23,7 +23,7 @@ pub fn case(bytes: &[u8]) -> Option<Case<'_>> {
     Some(Case {
         call: CALLS[choice / REMAINDERS % CALLS.len()],
         remainder: choice % REMAINDERS,
-        settings: u32::from(*settings) & SETTINGS,
+        settings: u32::from(*settings),
         slots: usize::from(*slots) % (MOST_SLOTS + 1),
         input,
     })

@@ -5,10 +5,8 @@ use core::mem::MaybeUninit;
 
 /// How lenient or strict the reading is.
 ///
-/// All settings are off by default, and each is on its own: any of them may be combined. Of httparse's
-/// settings those that ignore invalid headers cannot be set yet: a caller that needs one of these two
-/// cannot use Headreader yet, and learns so from the compiler.
-/// [`ascii_targets`](ParserConfig::ascii_targets) is not httparse's but ours.
+/// All settings are off by default, and each is on its own: any of them may be combined. All are
+/// httparse's, but for [`ascii_targets`](ParserConfig::ascii_targets), which is ours.
 ///
 /// ```
 /// let mut headers = [headreader::EMPTY_HEADER; 16];
@@ -20,10 +18,6 @@ use core::mem::MaybeUninit;
 /// assert_eq!(response.reason, Some("No Content"));
 /// ```
 #[derive(Clone, Debug, Default)]
-#[expect(
-    dead_code,
-    reason = "two are shown as httparse shows them; what sets and reads each comes with its setting"
-)]
 pub struct ParserConfig {
     allow_spaces_after_header_name_in_responses: bool,
     allow_obsolete_multiline_headers_in_responses: bool,
@@ -195,6 +189,66 @@ impl ParserConfig {
         self.allow_space_before_first_header_name
     }
 
+    /// Sets whether a line that is no header is passed over, in responses.
+    ///
+    /// Where a byte of a line would be [`HeaderName`](crate::Error::HeaderName) or
+    /// [`HeaderValue`](crate::Error::HeaderValue), the rest of the line is passed over instead, and the
+    /// line gives no header. Those before it and behind it are given as ever, and the head ends where it
+    /// would end without such lines. It is that error after all at a NUL on the way, and where no LF
+    /// follows a CR there; nor may a value end in a CR alone. RFC 9112, section 5, has no such line: the
+    /// next reader may take it for something else, so a proxy leaves it out of what it passes on.
+    ///
+    /// With [`allow_obsolete_multiline_headers_in_responses`] a wrong byte in a later line of a value
+    /// loses the whole header, and a line behind it that begins with a space or a tab is a line of its
+    /// own.
+    ///
+    /// [`allow_obsolete_multiline_headers_in_responses`]: ParserConfig::allow_obsolete_multiline_headers_in_responses
+    ///
+    /// ```
+    /// use headreader::{Error, ParserConfig, Response, Status, EMPTY_HEADER};
+    ///
+    /// let head = b"HTTP/1.1 200 OK\r\nno header\r\nServer: a\r\nAge : 1\r\n\r\n";
+    /// let mut headers = [EMPTY_HEADER; 3];
+    /// let mut response = Response::new(&mut headers);
+    /// assert_eq!(response.parse(head), Err(Error::HeaderName));
+    ///
+    /// let mut config = ParserConfig::default();
+    /// config.ignore_invalid_headers_in_responses(true);
+    /// let read = config.parse_response(&mut response, head);
+    /// assert_eq!(read, Ok(Status::Complete(head.len())));
+    /// assert_eq!(response.headers.len(), 1);
+    /// assert_eq!(response.headers[0].name, "Server");
+    /// ```
+    #[inline]
+    pub fn ignore_invalid_headers_in_responses(&mut self, value: bool) -> &mut Self {
+        self.ignore_invalid_headers_in_responses = value;
+        self
+    }
+
+    /// Sets whether a line that is no header is passed over, in requests, as
+    /// [`ignore_invalid_headers_in_responses`](ParserConfig::ignore_invalid_headers_in_responses) does
+    /// in responses.
+    ///
+    /// ```
+    /// use headreader::{Error, ParserConfig, Request, Status, EMPTY_HEADER};
+    ///
+    /// let head = b"GET / HTTP/1.1\r\nHost: a\r\nCookie: \x01\r\n\r\n";
+    /// let mut headers = [EMPTY_HEADER; 2];
+    /// let mut request = Request::new(&mut headers);
+    /// assert_eq!(request.parse(head), Err(Error::HeaderValue));
+    ///
+    /// let mut config = ParserConfig::default();
+    /// config.ignore_invalid_headers_in_requests(true);
+    /// let read = config.parse_request(&mut request, head);
+    /// assert_eq!(read, Ok(Status::Complete(head.len())));
+    /// assert_eq!(request.headers.len(), 1);
+    /// ```
+    #[inline]
+    pub fn ignore_invalid_headers_in_requests(&mut self, value: bool) -> &mut Self {
+        self.ignore_invalid_headers_in_requests = value;
+        self
+    }
+
     /// Sets whether a request's target may have visible ASCII only, the bytes 0x21 to 0x7E.
     ///
     /// With it on, any other byte in a target is [`Error::Token`](crate::Error::Token) as soon as it
@@ -250,6 +304,14 @@ impl ParserConfig {
             (
                 self.allow_space_before_first_header_name,
                 library::SPACE_BEFORE_FIRST_HEADER_NAME,
+            ),
+            (
+                self.ignore_invalid_headers_in_responses,
+                library::IGNORE_INVALID_HEADERS_IN_RESPONSES,
+            ),
+            (
+                self.ignore_invalid_headers_in_requests,
+                library::IGNORE_INVALID_HEADERS_IN_REQUESTS,
             ),
             (self.ascii_targets, library::ASCII_TARGETS),
         ];

@@ -1,13 +1,13 @@
 //! Reads the heads of HTTP/1 messages: the start line and the headers of a request or a response,
 //! headers alone, and the line that says how long a chunk of a body is.
 //!
-//! The interface is that of the crate httparse 1.10.1, by name and type, but for [`ParserConfig`]: two
-//! of its setters, those that ignore invalid headers, come later, and
-//! [`ascii_targets`](ParserConfig::ascii_targets) is ours. The answers are those of httparse with the
-//! same settings, unless that one is on. What reads is Headreader: code in which every function is proved to meet its contract. A complete answer means
-//! that a head ends there and that the fields are its own; an error, that no head that fits the lent
-//! headers begins there; partial, that none has ended yet; and none of them changes when more bytes
-//! arrive. `docs/PROVED.md` in Headreader's repository says what is proved.
+//! The interface is that of the crate httparse 1.10.1, by name and type, and all of its settings are
+//! there; [`ascii_targets`](ParserConfig::ascii_targets) is one of ours. The answers are those of
+//! httparse with the same settings, unless that one is on. What reads is Headreader: code in which
+//! every function is proved to meet its contract. A complete answer means that a head ends there and
+//! that the fields are its own; an error, that no head that fits the lent headers begins there;
+//! partial, that none has ended yet; and none of them changes when more bytes arrive. `docs/PROVED.md`
+//! in Headreader's repository says what is proved.
 //!
 //! Nothing is copied and to read nothing is allocated: names and values are parts of the caller's
 //! buffer, and the headers stand in memory that the caller lends.
@@ -85,13 +85,11 @@
 //!
 //! # In httparse's place
 //!
-//! For a program that does not ignore invalid headers, this line in its `Cargo.toml` is the whole
-//! change: `httparse = { package = "headreader", path = ".." }`. What is not as in httparse:
+//! This line in a program's `Cargo.toml` is the whole change:
+//! `httparse = { package = "headreader", path = ".." }`. What is not as in httparse:
 //!
-//! - [`ParserConfig`] does not have `ignore_invalid_headers_in_responses` and
-//!   `ignore_invalid_headers_in_requests` yet, so both are off. Its setting
-//!   [`ascii_targets`](ParserConfig::ascii_targets) is not httparse's, and is shown for debugging
-//!   behind those that are.
+//! - The setting [`ascii_targets`](ParserConfig::ascii_targets) of [`ParserConfig`] is ours, and is
+//!   shown for debugging behind httparse's.
 //! - The functions that tell where an error lies are ours.
 //! - An empty [`reason`](Response::reason) is the empty slice at the buffer's start. httparse gives
 //!   its place where a space stands behind the code and nothing behind that, and else a constant.

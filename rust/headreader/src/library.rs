@@ -44,6 +44,8 @@ pub const MULTILINE_HEADERS: u32 = 2;
 pub const SPACES_IN_REQUEST_LINE: u32 = 4;
 pub const SPACES_IN_STATUS_LINE: u32 = 8;
 pub const SPACE_BEFORE_FIRST_HEADER_NAME: u32 = 16;
+pub const IGNORE_INVALID_HEADERS_IN_RESPONSES: u32 = 32;
+pub const IGNORE_INVALID_HEADERS_IN_REQUESTS: u32 = 64;
 pub const ASCII_TARGETS: u32 = 128;
 
 /// The bits of the fields that are known.

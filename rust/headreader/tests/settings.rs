@@ -12,6 +12,7 @@ const IN_REQUEST_LINE: Set = ParserConfig::allow_multiple_spaces_in_request_line
 const IN_STATUS_LINE: Set = ParserConfig::allow_multiple_spaces_in_response_status_delimiters;
 const BEFORE_FIRST_NAME: Set = ParserConfig::allow_space_before_first_header_name;
 
+/// All but those to pass over lines that are no headers, under which little is an error.
 const ALL: [Set; 5] = [
     SPACES_AFTER_NAME,
     MULTILINE,

@@ -239,6 +239,41 @@ fn settings_for_headers() {
     ]);
 }
 
+/// What is passed over takes no slot; a NUL in it, or a CR alone, is the error after all.
+#[test]
+fn lines_that_are_no_headers() {
+    check(&[
+        (
+            "request\tignore-invalid-headers-in-requests\t2\t\"GET / HTTP/1.1\\nA:b\\n\\x7f: c\\r\\nD \\nE: f\\n\\n\"",
+            "complete 34 method=0+3 target=4+1 version=1 headers=[15+1:17+1 28+1:31+1] untouched=0",
+        ),
+        (
+            "response\tignore-invalid-headers-in-responses\t1\t\"HTTP/1.1 200\\nA: b\\x01\\n\\nC:d\"",
+            "complete 20 version=1 code=200 reason=+0 headers=[] untouched=1",
+        ),
+        (
+            "request\tignore-invalid-headers-in-requests\t1\t\"GET / HTTP/1.1\\nA: \\x01b\\x00\\n\\n\"",
+            "error HeaderValue at 20 method=0+3 target=4+1 version=1 headers=[] untouched=1",
+        ),
+        (
+            "response\tignore-invalid-headers-in-responses\t1\t\"HTTP/1.1 200\\n:\\rA: b\\n\\n\"",
+            "error HeaderName at 15 version=1 code=200 reason=+0 headers=[] untouched=1",
+        ),
+        (
+            "response\tignore-invalid-headers-in-responses\t0\t\"HTTP/1.1 200\\n:\\nA:\\n\\n\"",
+            "error TooManyHeaders at 15 version=1 code=200 reason=+0 headers=[] untouched=0",
+        ),
+        (
+            "request\tignore-invalid-headers-in-responses\t1\t\"GET / HTTP/1.1\\n:\\n\\n\"",
+            "error HeaderName at 15 method=0+3 target=4+1 version=1 headers=[] untouched=1",
+        ),
+        (
+            "response\tmultiline-headers+ignore-invalid-headers-in-responses\t1\t\"HTTP/1.1 200\\nA:b\\n \\x01\\n c\\nD:\\n\\n\"",
+            "complete 27 version=1 code=200 reason=+0 headers=[23+1:25+0] untouched=0",
+        ),
+    ]);
+}
+
 /// With blanks allowed before a colon, another byte there is none of them, whatever follows it.
 #[test]
 fn a_byte_too_many() {

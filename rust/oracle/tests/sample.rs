@@ -7,7 +7,7 @@ use std::ops::RangeInclusive;
 const SAMPLE: &str = concat!(env!("CARGO_MANIFEST_DIR"), "/../../crates/replay/stdin");
 
 const ROWS: RangeInclusive<usize> = 20_000..=40_000;
-const MOST_BYTES: usize = 2_500_000;
+const MOST_BYTES: usize = 3_000_000;
 
 /// For each call the kinds that it can answer; src/sample/row.rs tells the numbers of both.
 const KINDS: [(u64, &[u64]); 4] = [

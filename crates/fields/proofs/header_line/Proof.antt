@@ -1,7 +1,6 @@
--- `fields::header_line` meets its contract: the first byte decides, and a match on the name is a way of its machine.
+-- `fields::header_line` meets its contract: the first byte decides, and what is wrong in a line is its error or passed over with it, as the settings say.
 -- Assumes nothing.
 use borrow.Author.Needs.{needs}
-use Rattle.parts.specs.Ways.{ways}
 use Rattle.fields.specs.Line.{fields}
 use Rattle.fields.proofs.header_line.Statement.{statement}
 use Rattle.fields.proofs.header_line.Tie as tie
@@ -10,16 +9,26 @@ pub header-line-spec : {M : Type 1} → statement M
 header-line-spec =
     tie.close
     (tie.spec
-    (λ c. search (needs, fields, ways))
+    (λ c. search (needs, fields))
     (λ c. search needs)
     (λ c. search needs)
     (λ c κs. search needs)
-    (λ c. search (needs, fields, ways))
+    (λ c. search (needs, fields))
+    (λ c κs. search needs)
+    (λ c. search (needs, fields))
+    (λ c. search needs)
     (λ c κs. search needs)
     (λ c. search needs)
-    (λ c κs. search needs)
     (λ c. search needs)
     (λ c. search needs)
-    (λ c. search (needs, fields, ways))
-    (λ c. search (needs, fields, ways))
-    (λ c. search (needs, fields, ways)))
+    (λ c. search needs)
+    (λ c. search needs)
+    (λ c. search needs)
+    (λ c. search needs)
+    (λ c. search (needs, fields))
+    (λ c. search (needs, fields))
+    (λ c. search (needs, fields))
+    (λ c. search (needs, fields))
+    (λ c. search (needs, fields))
+    (λ c. search (needs, fields))
+    (λ c. search (needs, fields)))

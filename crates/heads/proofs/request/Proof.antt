@@ -1,4 +1,4 @@
--- `heads::request` meets its contract: its start line and its block, behind the blanks before it, are the head's two parts.
+-- `heads::request` meets its contract: its start line and its block are the head's two parts.
 -- Assumes nothing.
 use borrow.Author.Needs.{needs}
 use Rattle.heads.specs.Calls.{calls}
@@ -11,7 +11,6 @@ request-spec =
     (tie.spec
     (λ c κs. search needs)
     (λ c. search needs)
-    (λ c κs. search needs)
     (λ c κs. search needs)
     (λ c. search needs)
     (λ c. search needs)

@@ -40,7 +40,9 @@ pub fn usual(case: &Case) -> ParserConfig {
         .allow_obsolete_multiline_headers_in_responses(case.has(bits::MULTILINE_HEADERS))
         .allow_multiple_spaces_in_request_line_delimiters(case.has(bits::SPACES_IN_REQUEST_LINE))
         .allow_multiple_spaces_in_response_status_delimiters(case.has(bits::SPACES_IN_STATUS_LINE))
-        .allow_space_before_first_header_name(case.has(bits::SPACE_BEFORE_FIRST_HEADER_NAME));
+        .allow_space_before_first_header_name(case.has(bits::SPACE_BEFORE_FIRST_HEADER_NAME))
+        .ignore_invalid_headers_in_responses(case.has(bits::IGNORE_INVALID_HEADERS_IN_RESPONSES))
+        .ignore_invalid_headers_in_requests(case.has(bits::IGNORE_INVALID_HEADERS_IN_REQUESTS));
     config
 }
 

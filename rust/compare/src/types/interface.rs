@@ -41,15 +41,17 @@ fn functions<'h, 'b: 'h>() {
 }
 
 /// What sets each of the settings.
-const SETTERS: [fn(&mut ParserConfig, bool) -> &mut ParserConfig; 5] = [
+const SETTERS: [fn(&mut ParserConfig, bool) -> &mut ParserConfig; 7] = [
     ParserConfig::allow_spaces_after_header_name_in_responses,
     ParserConfig::allow_obsolete_multiline_headers_in_responses,
     ParserConfig::allow_multiple_spaces_in_request_line_delimiters,
     ParserConfig::allow_multiple_spaces_in_response_status_delimiters,
     ParserConfig::allow_space_before_first_header_name,
+    ParserConfig::ignore_invalid_headers_in_responses,
+    ParserConfig::ignore_invalid_headers_in_requests,
 ];
 
-/// What asks for all of them but the first.
+/// What asks for some of them; the others can't be asked for.
 const GETTERS: [fn(&ParserConfig) -> bool; 4] = [
     ParserConfig::obsolete_multiline_headers_in_responses_are_allowed,
     ParserConfig::multiple_spaces_in_request_line_delimiters_are_allowed,

@@ -68,8 +68,7 @@ fn seeds(recorded: &Path, examples: &[PathBuf]) -> Result<Vec<Vec<u8>>, String> 
     Ok(seeds)
 }
 
-/// The recorded queries; a setting that Headreader does not have is ignored, which leaves a call as good
-/// as any.
+/// The recorded queries.
 fn recorded_calls(recorded: &Path) -> Result<Vec<Vec<u8>>, String> {
     let text = fs::read_to_string(recorded).map_err(|error| at(recorded, &error))?;
     let rows = rows(&text).map_err(|error| at(recorded, &error))?;

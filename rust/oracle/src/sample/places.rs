@@ -61,6 +61,31 @@ const PLACES: &[Places] = &[
         slots: &[0, 1],
         starts: &[b"HTTP/1.1 111\n", b"HTTP/1.1 111\n a:"],
     },
+    Places {
+        setting: bits::IGNORE_INVALID_HEADERS_IN_REQUESTS,
+        call: Call::Request,
+        slots: &[1],
+        starts: &[
+            b"a / HTTP/1.1\n",
+            b"a / HTTP/1.1\na",
+            b"a / HTTP/1.1\n:",
+            b"a / HTTP/1.1\n:\n",
+            b"a / HTTP/1.1\na:\x01",
+        ],
+    },
+    Places {
+        setting: bits::IGNORE_INVALID_HEADERS_IN_RESPONSES,
+        call: Call::Response,
+        slots: &[1],
+        starts: &[
+            b"HTTP/1.1 111\n",
+            b"HTTP/1.1 111\na",
+            b"HTTP/1.1 111\n:",
+            b"HTTP/1.1 111\n:\n",
+            b"HTTP/1.1 111\na:\x01",
+            b"HTTP/1.1 111\na:1\n \x01",
+        ],
+    },
 ];
 
 pub fn queries() -> Vec<Query> {

@@ -6,10 +6,10 @@ use Rattle.headread.proofs.settings.first.Statement.{statement}
 use Rattle.headread.proofs.settings.first.Tie as tie
 
 abbrev Inv-loop : tie.InvT-loop
-Inv-loop settings₀ next₀ settings next = next ≤ 7
+Inv-loop settings₀ next₀ settings next = next ≤ 8
 
 abbrev μ-loop : tie.MeasureT-loop
-μ-loop settings₀ next₀ settings next = 7 - next
+μ-loop settings₀ next₀ settings next = 8 - next
 
 pub first-spec : {M : Type 1} → statement M
 first-spec =
@@ -19,6 +19,7 @@ first-spec =
     μ-loop
     (λ c. search needs)
     (λ c κs. search needs)
+    (λ c. search needs)
     (λ c. search needs)
     (λ c. search needs)
     (λ c. search needs)
