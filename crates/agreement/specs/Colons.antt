@@ -46,14 +46,14 @@ kept-name n (short u) e = never cc
 kept-name n (bad x) e = never cc
 
 module _ (z : List ℕ) (r : Rules) (n : ℕ) where
-  name-read : (h : Header) (p q : ℕ) (a : Answer (Unit {0}) Piece Fault) → name r z p ≡ a → and a (onward r z) ≡ got (header h) q → HeaderToColon z r h
-  name-read h p q (got a i) g e = subst (NameToColon (r .spaces-after-name) z) (kept-name a (valueLines r z i) e) (name-to-colon r z p a i g)
-  name-read h p q (short u) g e = never cc
-  name-read h p q (bad x) g e = never cc
+  name-kept : (h : Header) (p q : ℕ) (a : Answer (Unit {0}) Piece Fault) → name r z p ≡ a → and a (onward r z) ≡ got (header h) q → HeaderToColon z r h
+  name-kept h p q (got a i) g e = subst (NameToColon (r .spaces-after-name) z) (kept-name a (valueLines r z i) e) (name-to-colon r z p a i g)
+  name-kept h p q (short u) g e = never cc
+  name-kept h p q (bad x) g e = never cc
 
   -- a header's line is a field line that is read to its end
-  field-read : (p q : ℕ) (h : Header) → p < length z → ends r (getD z p 0) ≡ false → line r z p ≡ got (header h) q → field r z p ≡ got (header h) q
-  field-read p q h i c e = by (field r z p) refl (r .ignore-invalid-headers) refl
+  read-to-end : (p q : ℕ) (h : Header) → p < length z → ends r (getD z p 0) ≡ false → line r z p ≡ got (header h) q → field r z p ≡ got (header h) q
+  read-to-end p q h i c e = by (field r z p) refl (r .ignore-invalid-headers) refl
     where
       by : (a : Answer (Unit {0}) Kind Fault) → field r z p ≡ a → (o : Bool) → r .ignore-invalid-headers ≡ o → a ≡ got (header h) q
       by (got k j) u o t = sym (tried-got r z p i c u) ∙ e
@@ -69,7 +69,7 @@ module _ (z : List ℕ) (r : Rules) (n : ℕ) where
 
       by : (t : Bool) → ends r (getD z p 0) ≡ t → HeaderToColon z r h
       by true c = absurd (never-ended (lineEnd r NewLine z p) (sym (line-end-parts r z p inside c) ∙ e))
-      by false c = name-read h p q (name r z p) refl (sym (field-parts r z p) ∙ field-read p q h inside c e)
+      by false c = name-kept h p q (name r z p) refl (sym (field-parts r z p) ∙ read-to-end p q h inside c e)
 
   pub fields-to-colon : (hs : List Header) (p : ℕ) → Each (HeaderToColon z r) hs → Each (HeaderToColon z r) (given (block r n hs z p))
   fields-to-colon = given-all z r n (Each (HeaderToColon z r)) (λ hs h p q e l f. each-more (HeaderToColon z r) hs h f (header-to-colon p q h e))

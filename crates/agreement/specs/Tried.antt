@@ -58,31 +58,31 @@ module _ (r : Rules) where
   seen-append t (b ∷ u) v = seen-append (behindByte t b) u v
 
   -- bytes that are no CR leave nothing to be seen
-  plain-seen : {c : ℕ → Type 0} → ((b : ℕ) → c b → eqb b 13 ≡ false) → {w : List ℕ} → Many c w → seen (first tt) w ≡ first tt
-  plain-seen f rows.none = refl
-  plain-seen f (rows.more {b = b} x k) = rw (f b x) (plain-seen f k)
+  no-cr-seen : {c : ℕ → Type 0} → ((b : ℕ) → c b → eqb b 13 ≡ false) → {w : List ℕ} → Many c w → seen (first tt) w ≡ first tt
+  no-cr-seen f rows.none = refl
+  no-cr-seen f (rows.more {b = b} x k) = rw (f b x) (no-cr-seen f k)
 
-  token-plain : (b : ℕ) → tchar b → eqb b 13 ≡ false
-  token-plain b x = differs-test isToken b 13 cr-no-token (token-is-tchar b .1 x)
+  token-no-cr : (b : ℕ) → tchar b → eqb b 13 ≡ false
+  token-no-cr b x = differs-test isToken b 13 cr-no-token (token-is-tchar b .1 x)
 
-  blank-plain : (b : ℕ) → blank b → eqb b 13 ≡ false
-  blank-plain b x = differs-test isBlank b 13 cr-no-blank (blank-is-blank b .1 x)
+  blank-no-cr : (b : ℕ) → blank b → eqb b 13 ≡ false
+  blank-no-cr b x = differs-test isBlank b 13 cr-no-blank (blank-is-blank b .1 x)
 
-  text-plain : (b : ℕ) → text b → eqb b 13 ≡ false
-  text-plain b x = differs-test isValue b 13 cr-no-value (value-is-text b .1 x)
+  text-no-cr : (b : ℕ) → text b → eqb b 13 ≡ false
+  text-no-cr b x = differs-test isValue b 13 cr-no-value (value-is-text b .1 x)
 
   name-seen : {n : List ℕ} → field-name n → seen (first tt) n ≡ first tt
-  name-seen (some {b = b} x k) = rw (token-plain b x) (plain-seen token-plain k)
+  name-seen (some {b = b} x k) = rw (token-no-cr b x) (no-cr-seen token-no-cr k)
 
   behind-seen : {s : List ℕ} → behind-name r s → seen (first tt) s ≡ first tt
   behind-seen grammar.behind-name.nothing = refl
-  behind-seen (grammar.behind-name.blanks h (some {b = b} x k)) = rw (blank-plain b x) (plain-seen blank-plain k)
+  behind-seen (grammar.behind-name.blanks h (some {b = b} x k)) = rw (blank-no-cr b x) (no-cr-seen blank-no-cr k)
 
   within-seen : {m : List ℕ} → within-value r m → seen (first tt) m ≡ first tt
   within-seen grammar.within-value.none = refl
-  within-seen (grammar.within-value.more {b = b} x k) = rw (text-plain b x) (within-seen k)
-  within-seen (grammar.within-value.folded (grammar.obs-fold.fold {b = b} h grammar.line-end.crlf y) k) = rw (blank-plain b y) (within-seen k)
-  within-seen (grammar.within-value.folded (grammar.obs-fold.fold {b = b} h (grammar.line-end.lf l) y) k) = rw (blank-plain b y) (within-seen k)
+  within-seen (grammar.within-value.more {b = b} x k) = rw (text-no-cr b x) (within-seen k)
+  within-seen (grammar.within-value.folded (grammar.obs-fold.fold {b = b} h grammar.line-end.crlf y) k) = rw (blank-no-cr b y) (within-seen k)
+  within-seen (grammar.within-value.folded (grammar.obs-fold.fold {b = b} h (grammar.line-end.lf l) y) k) = rw (blank-no-cr b y) (within-seen k)
 
   pub wrong-seen : {w rest : List ℕ} → LineWrongIs r w rest → seen (first tt) w ≡ first tt
   wrong-seen (no-name c ys e i h) = ap (seen (first tt)) e

@@ -1,4 +1,4 @@
-// One line of a header block: a header, whose value may go on over several, or the empty line that ends it.
+// One line of a header block: a header, whose value may go on over several, one that is passed over, or the empty line that ends it.
 ghost use mathlib.Core.Path.{_≡_};
 ghost use Rattle.reader.specs.Answer.{and};
 ghost use Rattle.reader.specs.Chain.{ended};
@@ -89,6 +89,7 @@ pub fn header_line(s: &[u8], at: usize, settings: LineSettings) -> Line
                 Passed::Bad(e) => Line::Bad(e),
             }
         }
+        // what is not wrong is told as it is; of these answers a field line has the first and the last
         Line::Header(header, next) => Line::Header(header, next),
         Line::End(next) => Line::End(next),
         Line::Ignored(next) => Line::Ignored(next),

@@ -146,7 +146,7 @@ pub data before-first-name (r : Rules) : (first : Bool) → List ℕ → Type 0 
   nothing : {first : Bool} → before-first-name r first []
   blanks : {w : List ℕ} → r .space-before-first-name ≡ true → Some blank w → before-first-name r true w
 
--- RFC 9110, 5.5: any byte but CR, LF and NUL, which are dangerous in what is passed over too
+-- any byte but CR, LF and NUL, which RFC 9110, 5.5, calls dangerous in a value: no line with one of them inside is passed over
 pub record ignorable (b : ℕ) : Type 0 where
   pub no-nul : b ≡ 0x00 → ⊥
   pub no-cr : b ≡ 0x0D → ⊥
@@ -156,8 +156,9 @@ pub record ignorable (b : ℕ) : Type 0 where
 abbrev pub no-colon-next : Rules → (s u : List ℕ) → Type 0
 no-colon-next r s u = (c : ℕ) (v : List ℕ) → u ≡ c ∷ v → (c ≡ 0x3A → ⊥) × (s ≡ [] → tchar c → ⊥) × (r .spaces-after-name ≡ true → blank c → ⊥)
 
--- 5: a line that is no field-line, which a recipient refuses, and a setting passes over to its end: its first byte begins no name; behind its name
--- stands no colon; or a byte of it, on its first line or on one that goes on with it, can't stand in a value
+-- 5: each line up to the empty one is a field-line; no rule of the RFC lets a recipient pass over another, but a setting does, to that line's end: its
+-- first byte begins no name; behind its name stands no colon; or a byte of it, on its first line or on one that goes on with it, can't stand
+-- in a value
 pub data ignored-line (r : Rules) : List ℕ → Type 0 where
   no-name : {c : ℕ} {u e : List ℕ} → (tchar c → ⊥) → ignorable c → Many ignorable u → line-end r e → ignored-line r ((c ∷ u) ++ e)
   no-colon : {n s u e : List ℕ} → field-name n → behind-name r s → no-colon-next r s u → Many ignorable u → line-end r e → ignored-line r (n ++ s ++ (u ++ e))
@@ -167,11 +168,13 @@ pub data ignored-line (r : Rules) : List ℕ → Type 0 where
 abbrev pub no-blank-left : Rules → Bool → List ℕ → Type 0
 no-blank-left r first w = r .space-before-first-name ≡ true → first ≡ true → (c : ℕ) (u : List ℕ) → w ≡ c ∷ u → blank c → ⊥
 
--- 5.2: where folds are allowed a line that begins with a blank goes on with the field before it
+-- 5.2: where folds are allowed a line that begins with a blank goes on with the field before it, if that is not passed over: behind a line that is, it is
+-- a line of its own
 abbrev pub no-fold-left : Rules → List ℕ → Type 0
 no-fold-left r w = r .multiline-headers ≡ true → (c : ℕ) (u : List ℕ) → w ≡ c ∷ u → blank c → ⊥
 
--- 2.1: *( field-line CRLF ) CRLF, from the first field on or behind it, and among them the lines that are passed over
+-- 2.1: *( field-line CRLF ) CRLF, and among them the lines that are passed over; it is the first as long as no field was given, however many lines
+-- were passed over
 pub data header-block (r : Rules) : (first : Bool) → List ℕ → List Field → Type 0 where
   end : {first : Bool} {s e : List ℕ} → before-first-name r first s → line-end r e → header-block r first (s ++ e) []
   field : {first : Bool} {s w e b : List ℕ} {f : Field} {fs : List Field} → before-first-name r first s → field-line r w f → line-end r e → no-fold-left r b → header-block r false b fs → header-block r first (s ++ (w ++ e ++ b)) (f ∷ fs)

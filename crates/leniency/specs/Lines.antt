@@ -1,4 +1,4 @@
--- The lines of a block byte by byte, for arguments that a byte string is none.
+-- What the lines of a block are by their first bytes, for proofs that a byte string is no block.
 -- Assumes nothing.
 use Prim.Native.Nat.{ℕ, _≤_}
 use native.Mathlib.Omega.{arith}
@@ -120,12 +120,12 @@ pub at-letter : {r : Rules} {first : Bool} {w : List ℕ} {fs : List Field} (ys 
 at-letter ys k e = bare k 65 ys e (λ t h. differs isBlank A-no-blank (blank-is-blank 65 .1 h) refl)
 
 -- what is behind the name of a line that is passed over
-pub data BehindName (r : Rules) : List ℕ → Type 0 where
-  no-colon : {s u e : List ℕ} → behind-name r s → no-colon-next r s u → Many ignorable u → line-end r e → BehindName r (s ++ (u ++ e))
-  no-value : {s m u e : List ℕ} {c : ℕ} → behind-name r s → within-value r m → (text c → ⊥) → ignorable c → Many ignorable u → line-end r e → BehindName r (s ++ colon ++ m ++ ((c ∷ u) ++ e))
+pub data BehindLetter (r : Rules) : List ℕ → Type 0 where
+  no-colon : {s u e : List ℕ} → behind-name r s → no-colon-next r s u → Many ignorable u → line-end r e → BehindLetter r (s ++ (u ++ e))
+  no-value : {s m u e : List ℕ} {c : ℕ} → behind-name r s → within-value r m → (text c → ⊥) → ignorable c → Many ignorable u → line-end r e → BehindLetter r (s ++ colon ++ m ++ ((c ∷ u) ++ e))
 
 -- where that is the letter A, and no byte of a name follows it
-pub behind-letter : {r : Rules} {w : List ℕ} → ignored-line r w → (b : ℕ) → isToken b ≡ false → (zs ys : List ℕ) → w ++ zs ≡ 65 ∷ b ∷ ys → (v : List ℕ) × BehindName r v × (v ++ zs ≡ b ∷ ys)
+pub behind-letter : {r : Rules} {w : List ℕ} → ignored-line r w → (b : ℕ) → isToken b ≡ false → (zs ys : List ℕ) → w ++ zs ≡ 65 ∷ b ∷ ys → (v : List ℕ) × BehindLetter r v × (v ++ zs ≡ b ∷ ys)
 behind-letter (grammar.ignored-line.no-name x i k d) b f zs ys e = absurd (x (subst tchar (sym (same-head e)) A-token))
 behind-letter (grammar.ignored-line.no-colon {s = s} {u = u} {e = c} (some h none) a x k d) b f zs ys e = (s ++ (u ++ c), no-colon a x k d, same-tail e)
 behind-letter (grammar.ignored-line.no-colon (some h (more {b = c} i j)) a x k d) b f zs ys e = absurd (differs isToken f (token-is-tchar c .1 i) (same-head (same-tail e)))
@@ -136,7 +136,7 @@ behind-letter (grammar.ignored-line.no-value (some h (more {b = c} l j)) y m x i
 pub data BehindColon (r : Rules) : List ℕ → Type 0 where
   spoilt : {m u e : List ℕ} {c : ℕ} → within-value r m → (text c → ⊥) → ignorable c → Many ignorable u → line-end r e → BehindColon r (m ++ ((c ∷ u) ++ e))
 
-pub behind-colon : {r : Rules} {v : List ℕ} → BehindName r v → (zs ys : List ℕ) → v ++ zs ≡ 58 ∷ ys → (w : List ℕ) × BehindColon r w × (w ++ zs ≡ ys)
+pub behind-colon : {r : Rules} {v : List ℕ} → BehindLetter r v → (zs ys : List ℕ) → v ++ zs ≡ 58 ∷ ys → (w : List ℕ) × BehindColon r w × (w ++ zs ≡ ys)
 behind-colon (no-colon grammar.behind-name.nothing x none d) zs ys e = absurd (end-ignored d (above-ignorable 58 (omega arith)) zs ys e)
 behind-colon (no-colon grammar.behind-name.nothing x (more {b = b} {w = w} i k) d) zs ys e = absurd (x b w refl .0 (same-head e))
 behind-colon (no-colon (grammar.behind-name.blanks y (some {b = b} h j)) x k d) zs ys e = absurd (differs isBlank colon-no-blank (blank-is-blank b .1 h) (same-head e))

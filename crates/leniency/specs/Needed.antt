@@ -24,7 +24,7 @@ use Rattle.leniency.specs.Text.{ascii}
 use Rattle.leniency.specs.Allows.{LinesAllowed, KeptIgnored, block-as}
 use Rattle.leniency.specs.Builders.{a-token}
 use Rattle.leniency.specs.Shapes.{same-head, same-tail}
-use Rattle.leniency.specs.Lines.{on-if, Bare, above-ignorable, behind-end, only-end, behind-a-space, A-no-blank, at-letter, BehindName, behind-letter, BehindColon, behind-colon}
+use Rattle.leniency.specs.Lines.{on-if, Bare, above-ignorable, behind-end, only-end, behind-a-space, A-no-blank, at-letter, BehindLetter, behind-letter, BehindColon, behind-colon}
 use Rattle.leniency.specs.Lines as lines
 use Rattle.leniency.specs.RealHeads.{no-fields, no-end}
 use Rattle.leniency.specs.RealSpaces.{no-cr-text}
@@ -72,7 +72,7 @@ nothing-spoilt (lines.spoilt {u = u} {e = a} {c = c} (grammar.within-value.folde
     let p : f ++ w ++ ((c ∷ u) ++ a) ++ zs ≡ 13 ∷ 10 ∷ 13 ∷ ys = e in
     no-empty-fold j (w ++ (c ∷ (u ++ (a ++ zs)))) ys (simp append-assoc at p)
 
-named-ignored : {r : Rules} {v : List ℕ} → r .spaces-after-name ≡ true → BehindName r v → (zs : List ℕ) → v ++ zs ≡ ascii " :\r\n\r\n" → ⊥
+named-ignored : {r : Rules} {v : List ℕ} → r .spaces-after-name ≡ true → BehindLetter r v → (zs : List ℕ) → v ++ zs ≡ ascii " :\r\n\r\n" → ⊥
 named-ignored on (lines.no-colon grammar.behind-name.nothing x none d) zs e = no-end 32 refl refl d zs (ascii ":\r\n\r\n") e
 named-ignored on (lines.no-colon grammar.behind-name.nothing x (more {b = b} {w = w} i k) d) zs e = x b w refl .2 on (bytes.blank.space (same-head e))
 named-ignored on (lines.no-colon (grammar.behind-name.blanks y (some s none)) x none d) zs e = no-end 58 refl refl d zs (ascii "\r\n\r\n") (same-tail e)

@@ -25,7 +25,7 @@ use Rattle.leniency.specs.Builders.{a-token, a-code}
 use Rattle.leniency.specs.Said.{no-space-first}
 use Rattle.leniency.specs.Shapes.{same-head, same-tail}
 use Rattle.leniency.specs.Lines.{above-ignorable, only-end, behind-a-space}
-use Rattle.leniency.specs.RealIgnored.{asked-section, asks, a-request}
+use Rattle.leniency.specs.RealIgnored.{asked-block, asks, a-request}
 
 abbrev several-spaces : Settings
 several-spaces = record {
@@ -128,7 +128,7 @@ ends-behind-it =
 -- so where lines are passed over a setting more takes a head away
 pub its-end-moved : (l : RequestLine) (fs : List Field) → request-head (requestRules (passes-over true)) (spaced-line ++ ascii "\n") l fs → ⊥
 its-end-moved l fs d =
-    let S = asked-section (ascii "\n \n\n") d in
+    let S = asked-block (ascii "\n \n\n") d in
     let B = behind-a-space 10 (ascii "\n") refl (λ h. differs isBlank lf-no-blank (blank-is-blank 10 .1 h) refl) (S .3) (behind-lf (S .2) (S .1) (ascii " \n\n") (S .4)) in
     one-lf (only-end (B .1) 10 (ascii "\n") (B .2) (λ i. i .no-lf refl) .0) (B .2)
   where

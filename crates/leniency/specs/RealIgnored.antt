@@ -1,4 +1,4 @@
--- The rule that passes over lines makes a difference: the byte string is one of its entry in docs/DIFFERENCES.md.
+-- The rule that passes over lines makes a difference: two byte strings of its entry in docs/DIFFERENCES.md, a request and a response, are heads with it and not without it.
 -- Assumes nothing.
 use Prim.Native.Nat.{ℕ, _≤_}
 use native.Mathlib.Omega.{arith}
@@ -25,7 +25,7 @@ use Rattle.leniency.specs.Shapes.{same-head, same-tail, eight}
 use Rattle.leniency.specs.Lines.{Bare, bare, above-ignorable, behind-end}
 use Rattle.leniency.specs.Lines as lines
 use Rattle.leniency.specs.RealHeads.{no-fields, said, begins-space, asked}
-use Rattle.leniency.specs.RealSpaces.{section-of, a-response}
+use Rattle.leniency.specs.RealSpaces.{block-of, a-response}
 
 -- what is behind the line of a request with the method A, the target * and the version 1.0
 target-above : {r : Rules} {t : List ℕ} → request-target r t → Some (λ b. 0x21 ≤ b) t
@@ -48,8 +48,8 @@ behind-line (grammar.request-line.line {d = d} {t = t} {e = e} {v = v} (some h n
     same-tail (same-tail (same-tail (same-tail (same-tail (same-tail (same-tail (same-tail (ap (λ y. y ++ zs) (sym (eight n .whole)) ∙ behind-both))))))))
 behind-line (grammar.request-line.line (some h (more {b = b} x l)) i k j n) zs ys q = absurd (differs isToken space-no-token (token-is-tchar b .1 x) (same-head (same-tail q)))
 
-pub asked-section : {r : Rules} {l : RequestLine} {fs : List Field} (ys : List ℕ) → request-head r (ascii "A * HTTP/1.0" ++ ys) l fs → (c b : List ℕ) × line-end r c × header-block r true b fs × (c ++ b ≡ ys)
-asked-section ys d =
+pub asked-block : {r : Rules} {l : RequestLine} {fs : List Field} (ys : List ℕ) → request-head r (ascii "A * HTTP/1.0" ++ ys) l fs → (c b : List ℕ) × line-end r c × header-block r true b fs × (c ++ b ≡ ys)
+asked-block ys d =
     let A = asked (ascii " * HTTP/1.0" ++ ys) d refl in
     (A .c, A .b, A .ends, A .block, behind-line (A .line) (A .c ++ A .b) ys (A .whole))
 
@@ -78,9 +78,9 @@ no-colon-block ys f k e = no-colon-first ys f (bare k 58 ys e (λ t h. differs i
 pub ignore-invalid-headers-real : Real (λ r. r .ignore-invalid-headers) (Request (ascii "A * HTTP/1.0\r\n:\r\n\r\n"))
 ignore-invalid-headers-real = (
   λ r t. (asks, [], a-request crlf (a-colon r t)),
-  λ r f d. let S = asked-section (ascii "\r\n:\r\n\r\n") (d .2) in no-colon-block (ascii "\r\n\r\n") f (S .3) (behind-end (S .2) (S .1) (ascii ":\r\n\r\n") (S .4)),
+  λ r f d. let S = asked-block (ascii "\r\n:\r\n\r\n") (d .2) in no-colon-block (ascii "\r\n\r\n") f (S .3) (behind-end (S .2) (S .1) (ascii ":\r\n\r\n") (S .4)),
 )
 
 -- and of a response
 pub ignore-invalid-headers-real-response : Real (λ r. r .ignore-invalid-headers) (Response (ascii "HTTP/1.0 200 \r\n:\r\n\r\n"))
-ignore-invalid-headers-real-response = (λ r t. (said 1 200, [], a-response (a-colon r t)), λ r f d. no-colon-block (ascii "\r\n\r\n") f (section-of (ascii ":\r\n\r\n") (d .2)) refl)
+ignore-invalid-headers-real-response = (λ r t. (said 1 200, [], a-response (a-colon r t)), λ r f d. no-colon-block (ascii "\r\n\r\n") f (block-of (ascii ":\r\n\r\n") (d .2)) refl)

@@ -35,7 +35,7 @@ use Rattle.plain.specs.OneLine.{value-text}
 use Rattle.leniency.specs.Builders.{a-token, a-value, a-target}
 use Rattle.leniency.specs.Real.{Real, RealUnignored, Request, Response}
 use Rattle.leniency.specs.Shapes.{same-head, same-tail, answer, behind-code}
-use Rattle.leniency.specs.Lines.{on-if, Bare, bare, above-ignorable, behind-end, passed, at-cr, at-letter, BehindName, behind-letter, BehindColon, behind-colon}
+use Rattle.leniency.specs.Lines.{on-if, Bare, bare, above-ignorable, behind-end, passed, at-cr, at-letter, BehindLetter, behind-letter, BehindColon, behind-colon}
 use Rattle.leniency.specs.Lines as lines
 use Rattle.leniency.specs.RealHeads.{two-hundred, no-fields, before-end, said, begins-space, no-end, asked}
 
@@ -94,8 +94,8 @@ behind-tail {c = c} (tails.reason grammar.delimiter.one x n) k zs ys e = absurd 
 behind-tail {c = c} (tails.reason {u = u} (grammar.delimiter.more {w = w} t s) x n) k zs ys e = absurd (omega (arith, begins-space s (u ++ (c ++ zs)) 13 (10 ∷ ys) (sym (append-assoc w u (c ++ zs)) ∙ same-tail e)))
 behind-tail (tails.short t) k zs ys e = absurd (no-end 32 refl refl k zs (13 ∷ 10 ∷ ys) e)
 
-pub section-of : {r : Rules} {l : StatusLine} {fs : List Field} (ys : List ℕ) → response-head r (ascii "HTTP/1.0 200 \r\n" ++ ys) l fs → header-block r true ys fs
-section-of {r} {fs = fs} ys d =
+pub block-of : {r : Rules} {l : StatusLine} {fs : List Field} (ys : List ℕ) → response-head r (ascii "HTTP/1.0 200 \r\n" ++ ys) l fs → header-block r true ys fs
+block-of {r} {fs = fs} ys d =
     let A = answer (ascii "TTP/1.0 200 \r\n" ++ ys) d refl in
     subst (λ y. header-block r true y fs) (behind-tail (A .line .tail) (A .ends) (A .b) ys (behind-code A (ascii " \r\n" ++ ys) refl refl .1)) (A .block)
 
@@ -119,11 +119,11 @@ a-space = some (bytes.blank.space refl) none
 pub space-before-first-name-real : Real (λ r. r .space-before-first-name) (Response (ascii "HTTP/1.0 200 \r\n \r\n"))
 space-before-first-name-real = (
   λ r t. (said 1 200, [], a-response (grammar.header-block.end (grammar.before-first-name.blanks t a-space) crlf)),
-  λ r f d. no-space-before (bare (section-of (ascii " \r\n") (d .2)) 32 (ascii "\r\n") refl (λ t h. clash t f)) refl,
+  λ r f d. no-space-before (bare (block-of (ascii " \r\n") (d .2)) 32 (ascii "\r\n") refl (λ t h. clash t f)) refl,
 )
 
 -- spaces-after-name: without it a line with a space behind its name is passed over or refused
-no-space-ignored : {r : Rules} {v : List ℕ} → r .spaces-after-name ≡ false → BehindName r v → (zs : List ℕ) → v ++ zs ≡ ascii " :\r\n\r\n" → zs ≡ ascii "\r\n"
+no-space-ignored : {r : Rules} {v : List ℕ} → r .spaces-after-name ≡ false → BehindLetter r v → (zs : List ℕ) → v ++ zs ≡ ascii " :\r\n\r\n" → zs ≡ ascii "\r\n"
 no-space-ignored f (lines.no-colon {u = u} {e = c} grammar.behind-name.nothing x k d) zs e =
     let spaced : Many ignorable (ascii " :") = more (above-ignorable 0x20 (omega arith)) (more (above-ignorable 0x3A (omega arith)) none) in
     passed k spaced d zs (ascii "\r\n") (sym (append-assoc u c zs) ∙ e)
@@ -151,12 +151,12 @@ space-behind r t =
 pub spaces-after-name-real : RealUnignored (λ r. r .spaces-after-name) (Response (ascii "HTTP/1.0 200 \r\nA :\r\n\r\n"))
 spaces-after-name-real = (
   λ r t. (said 1 200, field [] ∷ [], space-behind r t),
-  λ r f off d. clash (no-space-behind f (at-letter (ascii " :\r\n\r\n") (section-of (ascii "A :\r\n\r\n") (d .2)) refl) refl .0) off,
+  λ r f off d. clash (no-space-behind f (at-letter (ascii " :\r\n\r\n") (block-of (ascii "A :\r\n\r\n") (d .2)) refl) refl .0) off,
 )
 
 -- and where it is passed over it gives no field
 pub spaces-after-name-given : Real (λ r. r .spaces-after-name) (λ r. response-head r (ascii "HTTP/1.0 200 \r\nA :\r\n\r\n") (said 1 200) (field [] ∷ []))
-spaces-after-name-given = (space-behind, λ r f d. let q = no-space-behind f (at-letter (ascii " :\r\n\r\n") (section-of (ascii "A :\r\n\r\n") d) refl) refl .1 in never cc)
+spaces-after-name-given = (space-behind, λ r f d. let q = no-space-behind f (at-letter (ascii " :\r\n\r\n") (block-of (ascii "A :\r\n\r\n") d) refl) refl .1 in never cc)
 
 -- multiline-headers: a value and what is around it in one line are text, and so end before a line's end
 around-text : {r : Rules} {o v t : List ℕ} → r .multiline-headers ≡ false → around-value r o → value-lines r v → around-value r t → Many text (o ++ v ++ t)
@@ -200,7 +200,7 @@ folded r t k =
 pub multiline-headers-real : RealUnignored (λ r. r .multiline-headers) (Response (ascii "HTTP/1.0 200 \r\nA:\r\n \r\n\r\n"))
 multiline-headers-real = (
   λ r t. (said 1 200, field [] ∷ [], folded r t fields.field-value.none),
-  λ r f off d. clash (no-folded (ascii "\r\n\r\n") f (at-letter (ascii ":\r\n \r\n\r\n") (section-of (ascii "A:\r\n \r\n\r\n") (d .2)) refl) refl .0) off,
+  λ r f off d. clash (no-folded (ascii "\r\n\r\n") f (at-letter (ascii ":\r\n \r\n\r\n") (block-of (ascii "A:\r\n \r\n\r\n") (d .2)) refl) refl .0) off,
 )
 
 -- and where it is passed over the value is not given
@@ -208,5 +208,5 @@ pub multiline-headers-given : Real (λ r. r .multiline-headers) (λ r. response-
 unfolding isTarget within
 multiline-headers-given = (
   λ r t. folded r t (a-value "b" refl),
-  λ r f d. let q = no-folded (ascii "b\r\n\r\n") f (at-letter (ascii ":\r\n b\r\n\r\n") (section-of (ascii "A:\r\n b\r\n\r\n") d) refl) refl .1 (field (ascii "b")) [] refl in never cc,
+  λ r f d. let q = no-folded (ascii "b\r\n\r\n") f (at-letter (ascii ":\r\n b\r\n\r\n") (block-of (ascii "A:\r\n b\r\n\r\n") d) refl) refl .1 (field (ascii "b")) [] refl in never cc,
 )

@@ -61,11 +61,12 @@ pub record Good (r : Rules) (w : List ℕ) (f : Field) : Type 0 where
 
 -- A block line by line, from the first field on or behind it. What it gives are the fields of its good lines, each in its place; a line that is
 -- not good gives none, and ends at its own end; and the block ends at its first empty line, before which, until there is a field, blanks
--- may stand where they are allowed
+-- may stand where they are allowed. A line that begins with a blank is never taken for one that is not good where it may be a first line, nor
+-- for the next one where it goes on with a field
 pub data LineByLine (r : Rules) : (first : Bool) → List ℕ → List Field → Type 0 where
   over : {first : Bool} {s e : List ℕ} → before-first-name r first s → line-end r e → LineByLine r first (s ++ e) []
-  good : {first : Bool} {s w b : List ℕ} {f : Field} {fs : List Field} → before-first-name r first s → OneField r w → Good r w f → LineByLine r false b fs → LineByLine r first (s ++ (w ++ b)) (f ∷ fs)
-  bad : {first : Bool} {s w b : List ℕ} {fs : List Field} → r .ignore-invalid-headers ≡ true → before-first-name r first s → OneField r w → ((f : Field) → Good r w f → ⊥) → LineByLine r first b fs → LineByLine r first (s ++ (w ++ b)) fs
+  good : {first : Bool} {s w b : List ℕ} {f : Field} {fs : List Field} → before-first-name r first s → OneField r w → Good r w f → grammar.no-fold-left r b → LineByLine r false b fs → LineByLine r first (s ++ (w ++ b)) (f ∷ fs)
+  bad : {first : Bool} {s w b : List ℕ} {fs : List Field} → r .ignore-invalid-headers ≡ true → before-first-name r first s → OneField r w → ignored-line r w → ((f : Field) → Good r w f → ⊥) → grammar.no-blank-left r first w → LineByLine r first b fs → LineByLine r first (s ++ (w ++ b)) fs
 
 -- what stands within a field: the rest of a line, and lines that begin with a blank, of which the last has no end yet
 data Open (r : Rules) : List ℕ → Type 0 where
@@ -87,9 +88,6 @@ inner-many f (more {b = b} x k) = more (f b x) (inner-many f k)
 
 inner-some : {c : ℕ → Type 0} → ((b : ℕ) → c b → inner b) → {w : List ℕ} → Some c w → Some inner w
 inner-some f (some {b = b} x k) = some (f b x) (inner-many f k)
-
-some-many : {w : List ℕ} → Some inner w → Many inner w
-some-many (some x k) = more x k
 
 some-append : {v w : List ℕ} → Some inner v → Many inner w → Some inner (v ++ w)
 some-append (some x k) h = some x (many-append k h)
@@ -145,13 +143,13 @@ module _ {r : Rules} where
     single = λ f. absurd (clash t f);
   }
 
-  field-lines : {w e : List ℕ} {f : Field} → field-line r w f → line-end r e → OneField r (w ++ e)
+  pub field-lines : {w e : List ℕ} {f : Field} → field-line r w f → line-end r e → OneField r (w ++ e)
   field-lines {e = e} (grammar.field-line.line {n = n} {s = s} {o = o} {v = v} {t = t} name behind left value right) d =
       let inside = open-append (open-append (open-append (open-line (behind-inner behind) (rest colon-inner)) (around-open left)) (value-open value)) (around-open right) in
       let same : n ++ (s ++ colon ++ o ++ v ++ t) ≡ n ++ s ++ colon ++ o ++ v ++ t = simp append-assoc in
       subst (λ z. OneField r (z ++ e)) same (closed (inner-some token-inner name) inside d)
 
-  ignored-lines : {w : List ℕ} → ignored-line r w → OneField r w
+  pub ignored-lines : {w : List ℕ} → ignored-line r w → OneField r w
   ignored-lines (grammar.ignored-line.no-name {c = c} {u = u} {e = e} h i k d) = subst (λ z. OneField r (z ++ e)) (append-nil (c ∷ u)) (closed {a = c ∷ u} (some (ignorable-inner c i) (inner-many ignorable-inner k)) (rest none) d)
   ignored-lines (grammar.ignored-line.no-colon {n = n} {s = s} {u = u} {e = e} name behind f k d) =
       let same : n ++ (s ++ u) ++ e ≡ n ++ s ++ (u ++ e) = simp append-assoc in
@@ -162,7 +160,7 @@ module _ {r : Rules} where
       subst (OneField r) same (closed (inner-some token-inner name) inside d)
 
   -- a line is not both: read with an empty line behind it, it is one or the other
-  not-both : {w : List ℕ} → r .ignore-invalid-headers ≡ true → ignored-line r w → (f : Field) → Good r w f → ⊥
+  pub not-both : {w : List ℕ} → r .ignore-invalid-headers ≡ true → ignored-line r w → (f : Field) → Good r w f → ⊥
   not-both {w} o l f G =
       let z : List ℕ = w ++ (0x0A ∷ []) in
       let N : NoBlank (0x0A ∷ []) = record { b = 0x0A; ys = []; whole = refl; solid = lf-no-blank } in
@@ -175,8 +173,14 @@ module _ {r : Rules} where
   -- every block is so
   pub line-by-line : {first : Bool} {w : List ℕ} {fs : List Field} → header-block r first w fs → LineByLine r first w fs
   line-by-line (grammar.header-block.end c d) = over c d
-  line-by-line (grammar.header-block.field {w = w} {e = e} c f d o k) = good c (field-lines f d) (record { v = w; e = e; whole = refl; line = f; ends = d }) (line-by-line k)
-  line-by-line (grammar.header-block.ignored t c l o k) = bad t c (ignored-lines l) (not-both t l) (line-by-line k)
+  line-by-line (grammar.header-block.field {w = w} {e = e} c f d o k) = good c (field-lines f d) (record { v = w; e = e; whole = refl; line = f; ends = d }) o (line-by-line k)
+  line-by-line (grammar.header-block.ignored t c l o k) = bad t c (ignored-lines l) l (not-both t l) o (line-by-line k)
+
+  -- and nothing else is: so what is given is fixed by the bytes, as the fields of a block are
+  pub by-its-lines : {first : Bool} {w : List ℕ} {fs : List Field} → LineByLine r first w fs → header-block r first w fs
+  by-its-lines (over c d) = grammar.header-block.end c d
+  by-its-lines {first} (good {s = s} {b = b} {f = f} {fs = fs} c K G o k) = subst (λ y. header-block r first (s ++ (y ++ b)) (f ∷ fs)) (sym (G .whole)) (grammar.header-block.field c (G .line) (G .ends) o (by-its-lines k))
+  by-its-lines (bad t c K l n o k) = grammar.header-block.ignored t c l o (by-its-lines k)
 
 -- lines with bytes in them, and no empty one
 pub data NoneEmpty (r : Rules) : List ℕ → Type 0 where
@@ -219,8 +223,8 @@ module _ {r : Rules} where
   -- where no blanks may stand before the first name, the head ends at its first empty line
   pub first-empty : r .space-before-first-name ≡ false → {first : Bool} {w : List ℕ} {fs : List Field} → LineByLine r first w fs → FirstEmpty r w
   first-empty h (over {s = s} {e = e} c d) = record { v = []; e = e; whole = ap (λ y. y ++ e) (nothing-before h c); lines = no-line; ends = d }
-  first-empty h (good c K G k) = more-lines (nothing-before h c) K (first-empty h k)
-  first-empty h (bad t c K n k) = more-lines (nothing-before h c) K (first-empty h k)
+  first-empty h (good c K G o k) = more-lines (nothing-before h c) K (first-empty h k)
+  first-empty h (bad t c K l n o k) = more-lines (nothing-before h c) K (first-empty h k)
 
 -- what a call was complete on: a start, and behind it a block of these fields
 pub record HeadByLine (r : Rules) (s : List ℕ) (q : ℕ) (fields : List Field) : Type 0 where

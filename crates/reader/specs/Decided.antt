@@ -2,7 +2,6 @@
 -- Assumes nothing.
 use mathlib.Core.Path.{_≡_, refl, sym, ap, _∙_}
 use mathlib.Core.List.{List, [], _∷_, _++_}
-use mathlib.Core.Bool.{Bool}
 use Prim.Native.Nat.{ℕ, _+_, _≤_, _<_}
 use native.Mathlib.Omega.{arith}
 use lib.ListN.{length, take, drop, length-drop, take-append-drop}
@@ -12,9 +11,8 @@ use Rattle.reader.specs.Laws.{resume, run-append, gave-stays, gave-withi
 use Rattle.reader.specs.Lifted.{lifted}
 use Rattle.reader.specs.Judged.{pass, moved, judged}
 use Rattle.reader.specs.Seq.{first, second, cross, seq}
-use Rattle.reader.specs.Branch.{fresh, one, other, branch}
 use Rattle.reader.specs.Answer.{short, bad, answer}
-use Rattle.reader.specs.Tests.{split, never}
+use Rattle.reader.specs.Tests.{never}
 
 module _ {S A F : Type 0} (m : Step S A F) (bs cs : List ℕ) (s : S) (p : ℕ) where
   -- the first bytes come to v, and all of them to z
@@ -130,8 +128,3 @@ module _ {S A T B F : Type 0} where
   pub takes-seq : (m : Step S A F) (go : A → T) (n : A → Step T B F) → ((a : A) → Takes (n a)) → Takes (seq m go n)
   takes-seq m go n N (first s) p b = cross-taken (m s p b) go (λ a. n a (go a) p b) (λ a. N a (go a) p b)
   takes-seq m go n N (second a t) p b = lifted-taken (second a) (n a t p b) (N a t p b)
-
-pub takes-branch : {S T A F : Type 0} (test : ℕ → Bool) (m : Step S A F) (s : S) (n : Step T A F) (t : T) → Takes m → Takes n → Takes (branch test m s n t)
-takes-branch test m s n t M N fresh p b = split Taken (test b) (λ _. lifted-taken one (m s p b) (M s p b)) (λ _. lifted-taken other (n t p b) (N t p b))
-takes-branch test m s n t M N (one u) p b = lifted-taken one (m u p b) (M u p b)
-takes-branch test m s n t M N (other u) p b = lifted-taken other (n u p b) (N u p b)

@@ -24,8 +24,11 @@ const UNTOUCHED: Header = Header {
 /// How many slots are lent.
 const SLOTS: usize = 3;
 
-/// How a block of headers ended, how many headers were given, and where the error lies.
-type Answer = (Result<usize>, usize, Option<usize>);
+/// A header's name and value.
+type Pair = (String, Vec<u8>);
+
+/// How a block of headers ended, which headers were given, and where the error lies.
+type Answer = (Result<usize>, Vec<Pair>, Option<usize>);
 
 fn with(setters: &[Set]) -> ParserConfig {
     let mut config = ParserConfig::default();
@@ -35,16 +38,26 @@ fn with(setters: &[Set]) -> ParserConfig {
     config
 }
 
-/// How many slots were written, with the others as they were.
-fn count(headers: &[Header]) -> usize {
+/// What was written to slots, with the others as they were.
+fn written(headers: &[Header]) -> Vec<Pair> {
     let is_written = |header: &&Header| **header != UNTOUCHED;
-    let count = headers.iter().take_while(is_written).count();
-    assert!(headers[count..].iter().all(|header| *header == UNTOUCHED));
-    count
+    let pair = |header: &Header| (header.name.to_string(), header.value.to_vec());
+    let written: Vec<Pair> = headers.iter().take_while(is_written).map(pair).collect();
+    let others = &headers[written.len()..];
+    assert!(others.iter().all(|header| *header == UNTOUCHED));
+    written
+}
+
+/// How many slots a head has at the end: those of its headers if it is complete, else all.
+fn left(read: Result<usize>, given: &[Pair], slots: usize) -> usize {
+    match read {
+        Ok(Status::Complete(_)) => given.len(),
+        _ => slots,
+    }
 }
 
 /// Places from the start of the block on.
-fn behind(line: &[u8], read: Result<usize>, given: usize, position: Option<usize>) -> Answer {
+fn behind(line: &[u8], read: Result<usize>, given: Vec<Pair>, position: Option<usize>) -> Answer {
     let read = read.map(|status| match status {
         Status::Complete(end) => Status::Complete(end - line.len()),
         Status::Partial => Status::Partial,
@@ -57,8 +70,11 @@ fn in_request(config: &ParserConfig, block: &[u8], slots: usize) -> Answer {
     let mut headers = [UNTOUCHED; SLOTS];
     let mut request = Request::new(&mut headers[..slots]);
     let read = config.parse_request(&mut request, &head);
+    let told = request.headers.len();
+    let given = written(&headers);
+    assert_eq!(told, left(read, &given, slots));
     let position = config.request_error_position(&head, slots);
-    behind(REQUEST_LINE, read, count(&headers), position)
+    behind(REQUEST_LINE, read, given, position)
 }
 
 fn in_response(config: &ParserConfig, block: &[u8], slots: usize) -> Answer {
@@ -66,49 +82,61 @@ fn in_response(config: &ParserConfig, block: &[u8], slots: usize) -> Answer {
     let mut headers = [UNTOUCHED; SLOTS];
     let mut response = Response::new(&mut headers[..slots]);
     let read = config.parse_response(&mut response, &head);
+    let told = response.headers.len();
+    let given = written(&headers);
+    assert_eq!(told, left(read, &given, slots));
     let position = config.response_error_position(&head, slots);
-    behind(STATUS_LINE, read, count(&headers), position)
+    behind(STATUS_LINE, read, given, position)
 }
 
-/// The same answer for both kinds, each with its own setting.
-fn ignoring(block: &[u8], slots: usize) -> Answer {
-    let request = in_request(&with(&[IN_REQUESTS]), block, slots);
-    let response = in_response(&with(&[IN_RESPONSES]), block, slots);
+/// The same answer for both kinds, each with its own setting and more.
+fn ignoring_with(more: &[Set], block: &[u8], slots: usize) -> Answer {
+    let request = in_request(&with(&[&[IN_REQUESTS], more].concat()), block, slots);
+    let response = in_response(&with(&[&[IN_RESPONSES], more].concat()), block, slots);
     assert_eq!(request, response, "{}", block.escape_ascii());
     request
 }
 
-/// The names and values that a response gives.
-fn given(config: &ParserConfig, block: &[u8]) -> Vec<(String, Vec<u8>)> {
-    let head = [STATUS_LINE, block].concat();
-    let mut headers = [UNTOUCHED; SLOTS];
-    let mut response = Response::new(&mut headers);
-    let read = config.parse_response(&mut response, &head);
-    assert_eq!(read, Ok(Status::Complete(head.len())));
-    let pair = |header: &Header| (header.name.to_string(), header.value.to_vec());
-    response.headers.iter().map(pair).collect()
+/// The same answer for both kinds, each with its own setting alone.
+fn ignoring(block: &[u8], slots: usize) -> Answer {
+    ignoring_with(&[], block, slots)
+}
+
+fn pairs(given: &[(&str, &str)]) -> Vec<Pair> {
+    let pair = |&(name, value): &(&str, &str)| (name.to_string(), value.into());
+    given.iter().map(pair).collect()
+}
+
+/// That a block is whole up to an end, with these headers.
+fn whole(end: usize, given: &[(&str, &str)]) -> Answer {
+    (Ok(Status::Complete(end)), pairs(given), None)
+}
+
+/// That a block is an error, with these headers before it.
+fn wrong(error: Error, position: usize, given: &[(&str, &str)]) -> Answer {
+    (Err(error), pairs(given), Some(position))
 }
 
 /// A line that its end makes no header.
 const NAME: &[u8] = b"A";
 
-/// Lines that are no headers, without their ends.
-const LINES: &[&[u8]] = &[
-    NAME,
-    b":",
-    b": a",
-    b"A ",
-    b"A b",
-    b"A : b",
-    b"A\x7f: b",
-    b"\xc3\xa9: a",
-    b"A: \x01",
-    b"A: b\x7fc",
-    b"A:\x1f\x01",
-    b" A: b",
-    b"\tA: b",
-    b"(A): b",
-    b"A: b\x0b C: d",
+/// Lines that are no headers, without their ends, and what they are where they are not passed over.
+const LINES: &[(&[u8], Error, usize)] = &[
+    (NAME, Error::HeaderName, 1),
+    (b":", Error::HeaderName, 0),
+    (b": a", Error::HeaderName, 0),
+    (b"A ", Error::HeaderName, 1),
+    (b"A b", Error::HeaderName, 1),
+    (b"A : b", Error::HeaderName, 1),
+    (b"A\x7f: b", Error::HeaderName, 1),
+    (b"\xc3\xa9: a", Error::HeaderName, 0),
+    (b"A: \x01", Error::HeaderValue, 3),
+    (b"A: b\x7fc", Error::HeaderValue, 4),
+    (b"A:\x1f\x01", Error::HeaderValue, 2),
+    (b" A: b", Error::HeaderName, 0),
+    (b"\tA: b", Error::HeaderName, 0),
+    (b"(A): b", Error::HeaderName, 0),
+    (b"A: b\x0b C: d", Error::HeaderValue, 4),
 ];
 
 const LINE_ENDS: [&[u8]; 2] = [b"\r\n", b"\n"];
@@ -130,7 +158,7 @@ fn both_are_off_until_they_are_set() {
 /// where it ends.
 #[test]
 fn headers_around_a_line_are_given() {
-    for line in LINES {
+    for (line, ..) in LINES {
         for end in LINE_ENDS {
             let line = [line, end].concat();
             let [first, second] = [&b"X: y\r\n"[..], b"Zz:  w \n"];
@@ -140,15 +168,9 @@ fn headers_around_a_line_are_given() {
                 [first, second, &line],
             ] {
                 let block = [&lines.concat()[..], b"\r\n"].concat();
-                let whole = (Ok(Status::Complete(block.len())), 2, None);
+                let whole = whole(block.len(), &[("X", "y"), ("Zz", "w")]);
                 assert_eq!(ignoring(&block, SLOTS), whole, "{}", block.escape_ascii());
                 assert_eq!(ignoring(&block, 2), whole);
-                let expected = [("X", "y"), ("Zz", "w")];
-                let found = given(&with(&[IN_RESPONSES]), &block);
-                assert!(found
-                    .iter()
-                    .map(|(name, value)| (&name[..], std::str::from_utf8(value).unwrap()))
-                    .eq(expected));
             }
         }
     }
@@ -157,33 +179,30 @@ fn headers_around_a_line_are_given() {
 /// With the setting of the other kind, and with none, it is the error that it was.
 #[test]
 fn the_other_setting_has_no_say() {
-    for line in LINES {
-        let block = [line, &b"\r\n\r\n"[..]].concat();
-        let request = in_request(&with(&[IN_RESPONSES]), &block, 1);
-        assert_eq!(request, in_request(&ParserConfig::default(), &block, 1));
-        let response = in_response(&with(&[IN_REQUESTS]), &block, 1);
-        assert_eq!(response, in_response(&ParserConfig::default(), &block, 1));
-        assert_eq!(request, response);
-        assert!(request.2.is_some(), "{}", block.escape_ascii());
+    for &(line, error, position) in LINES {
+        let block = [line, b"\r\n\r\n"].concat();
+        let wrong = wrong(error, position, &[]);
+        assert_eq!(in_request(&with(&[IN_RESPONSES]), &block, 1), wrong);
+        assert_eq!(in_response(&with(&[IN_REQUESTS]), &block, 1), wrong);
+        assert_eq!(in_request(&with(&[]), &block, 1), wrong);
+        assert_eq!(in_response(&with(&[]), &block, 1), wrong);
     }
 }
 
 /// What is passed over may have any byte but NUL: each of the 256 behind each line.
 #[test]
 fn a_nul_is_the_error_after_all() {
-    for line in LINES.iter().filter(|&&line| line != NAME) {
-        let error = in_request(&ParserConfig::default(), &[line, &b"\n"[..]].concat(), 1).0;
+    for &(line, error, _) in LINES.iter().filter(|&&(line, ..)| line != NAME) {
         for byte in 0..=255 {
-            let block = [line, &[byte][..], b"\r\n\r\n"].concat();
-            let (read, given, position) = ignoring(&block, 1);
-            assert_eq!(given, 0);
-            match byte {
-                0 => assert_eq!((read, position), (error, Some(line.len()))),
-                b'\r' => assert_eq!((read, position), (error, Some(line.len() + 1))),
+            let block = [line, &[byte], b"\r\n\r\n"].concat();
+            let expected = match byte {
+                0 => wrong(error, line.len(), &[]),
+                b'\r' => wrong(error, line.len() + 1, &[]),
                 // The line ends there, and the next is empty.
-                b'\n' => assert_eq!(read, Ok(Status::Complete(line.len() + 3))),
-                _ => assert_eq!(read, Ok(Status::Complete(block.len()))),
-            }
+                b'\n' => whole(line.len() + 3, &[]),
+                _ => whole(block.len(), &[]),
+            };
+            assert_eq!(ignoring(&block, 1), expected, "{}", block.escape_ascii());
         }
     }
 }
@@ -215,7 +234,8 @@ fn errors_and_where_they_lie() {
             assert_eq!((read, found), expected, "{}", block.escape_ascii());
         }
         let more = [block, b"\n\n: c\r\n\r\n"].concat();
-        assert_eq!(ignoring(&more, 1).2, Some(position));
+        let (read, _, found) = ignoring(&more, 1);
+        assert_eq!((read, found), (Err(error), Some(position)));
     }
 }
 
@@ -223,12 +243,12 @@ fn errors_and_where_they_lie() {
 #[test]
 fn slots_are_for_headers_alone() {
     let block = b":\nA: b\nC\nD: e\n\x01\nF: g\nH: \x01\n\n";
+    let headers = [("A", "b"), ("D", "e"), ("F", "g")];
     for (slots, position) in [(0, 2), (1, 9), (2, 16)] {
-        let too_many = (Err(Error::TooManyHeaders), slots, Some(position));
+        let too_many = wrong(Error::TooManyHeaders, position, &headers[..slots]);
         assert_eq!(ignoring(block, slots), too_many);
     }
-    let whole = (Ok(Status::Complete(block.len())), 3, None);
-    assert_eq!(ignoring(block, 3), whole);
+    assert_eq!(ignoring(block, 3), whole(block.len(), &headers));
 }
 
 /// More lines than there are slots without memory from the heap.
@@ -246,25 +266,39 @@ fn many_lines() {
     assert_eq!(config.request_error_position(&only, 0), None);
 }
 
-/// A fold with a wrong byte loses the whole header, and what would go on with it is a line of its own.
+/// A fold with a wrong byte loses the whole header, and what would go on with it is a line of its own;
+/// in a request, which has no folds, such a line is passed over alone.
 #[test]
 fn folds_with_a_wrong_byte() {
+    let request = with(&[IN_REQUESTS, MULTILINE]);
+    let response = with(&[IN_RESPONSES, MULTILINE]);
+    for (block, folded, not_folded) in [
+        (
+            &b"A: b\n c\x01\n d\nE: f\n\n"[..],
+            &[("E", "f")][..],
+            &[("A", "b"), ("E", "f")][..],
+        ),
+        (
+            b"A: b\n c\nD\x01: e\n f\nG: h\n\n",
+            &[("A", "b\n c"), ("G", "h")],
+            &[("A", "b"), ("G", "h")],
+        ),
+        (b"A:\n \x01\n\n", &[], &[("A", "")]),
+    ] {
+        let end = block.len();
+        assert_eq!(in_response(&response, block, SLOTS), whole(end, folded));
+        assert_eq!(in_request(&request, block, SLOTS), whole(end, not_folded));
+    }
+}
+
+#[test]
+fn errors_in_folds() {
     let config = with(&[IN_RESPONSES, MULTILINE]);
-    let header = |name: &str, value: &[u8]| (name.to_string(), value.to_vec());
-    assert_eq!(
-        given(&config, b"A: b\n c\x01\n d\nE: f\n\n"),
-        [header("E", b"f")]
-    );
-    assert_eq!(
-        given(&config, b"A: b\n c\nD\x01: e\n f\nG: h\n\n"),
-        [header("A", b"b\n c"), header("G", b"h")]
-    );
-    assert_eq!(given(&config, b"A:\n \x01\n\n"), []);
     for (block, error, position) in [
         (&b"A: b\n \0"[..], Error::HeaderValue, 6),
         (b"A: b\n \x01\n \0", Error::HeaderName, 9),
     ] {
-        let wrong = (Err(error), 0, Some(position));
+        let wrong = wrong(error, position, &[]);
         assert_eq!(in_response(&config, block, SLOTS), wrong);
     }
 }
@@ -272,20 +306,23 @@ fn folds_with_a_wrong_byte() {
 /// As long as no header was given, a line behind one that is passed over is a first line again.
 #[test]
 fn blanks_before_the_first_name() {
-    let config = with(&[IN_RESPONSES, BEFORE_FIRST_NAME]);
-    let header = |name: &str, value: &[u8]| (name.to_string(), value.to_vec());
-    assert_eq!(given(&config, b":\n \tA: b\n\n"), [header("A", b"b")]);
-    assert_eq!(given(&config, b" :\n A: b\n C: d\n\n"), [header("A", b"b")]);
-    let (read, given, _) = in_response(&config, b":\n \nA: b\n\n", SLOTS);
-    assert_eq!((read, given), (Ok(Status::Complete(4)), 0));
+    for (block, end, given) in [
+        (&b":\n \tA: b\n\n"[..], 10, &[("A", "b")][..]),
+        (b" :\n A: b\n C: d\n\n", 16, &[("A", "b")]),
+        (b":\n \nA: b\n\n", 4, &[]),
+    ] {
+        let answer = ignoring_with(&[BEFORE_FIRST_NAME], block, SLOTS);
+        assert_eq!(answer, whole(end, given));
+    }
 }
 
+/// In a request, which may not have them, such a line is passed over.
 #[test]
 fn spaces_after_a_name() {
-    let config = with(&[IN_RESPONSES, SPACES_AFTER_NAME]);
-    let header = |name: &str, value: &[u8]| (name.to_string(), value.to_vec());
-    assert_eq!(
-        given(&config, b"A b: c\nD \t: e\nF \n\n"),
-        [header("D", b"e")]
-    );
+    let block = b"A b: c\nD \t: e\nF \n\n";
+    let response = with(&[IN_RESPONSES, SPACES_AFTER_NAME]);
+    let with_spaces = whole(block.len(), &[("D", "e")]);
+    assert_eq!(in_response(&response, block, SLOTS), with_spaces);
+    let request = with(&[IN_REQUESTS, SPACES_AFTER_NAME]);
+    assert_eq!(in_request(&request, block, SLOTS), whole(block.len(), &[]));
 }

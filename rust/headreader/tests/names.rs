@@ -5,16 +5,26 @@ use headreader::{Error, Header, ParserConfig, Request, Response, Status, EMPTY_H
 /// A header's name and value, or the position of the byte that is refused.
 type Answer = Result<(String, Vec<u8>), usize>;
 
-/// The settings alone and with all others, spaces after names allowed or not.
-fn alone_and_with_all(allowed: bool) -> [ParserConfig; 2] {
+/// What sets that lines which are no headers are passed over, in one kind of head.
+type Ignore = fn(&mut ParserConfig, bool) -> &mut ParserConfig;
+
+const IN_REQUESTS: Ignore = ParserConfig::ignore_invalid_headers_in_requests;
+const IN_RESPONSES: Ignore = ParserConfig::ignore_invalid_headers_in_responses;
+
+/// The setting, spaces after names allowed or not, alone and with all others under which a wrong byte is
+/// an error, so that lines are passed over in the other kind of head only.
+fn alone_and_with_others(allowed: bool, in_other_kind: Ignore) -> [ParserConfig; 2] {
     let mut alone = ParserConfig::default();
     alone.allow_spaces_after_header_name_in_responses(allowed);
-    let mut all = alone.clone();
-    all.allow_obsolete_multiline_headers_in_responses(true)
+    let mut with_others = alone.clone();
+    with_others
+        .allow_obsolete_multiline_headers_in_responses(true)
         .allow_multiple_spaces_in_request_line_delimiters(true)
         .allow_multiple_spaces_in_response_status_delimiters(true)
-        .allow_space_before_first_header_name(true);
-    [alone, all]
+        .allow_space_before_first_header_name(true)
+        .ascii_targets(true);
+    in_other_kind(&mut with_others, true);
+    [alone, with_others]
 }
 
 fn response(config: &ParserConfig, head: &[u8]) -> Answer {
@@ -88,7 +98,7 @@ fn check(start: &str, allowed: bool, read: impl Fn(&[u8]) -> Answer) {
 
 #[test]
 fn responses_with_spaces_after_names() {
-    for config in alone_and_with_all(true) {
+    for config in alone_and_with_others(true, IN_REQUESTS) {
         let read = |head: &[u8]| response(&config, head);
         check("HTTP/1.1 200 OK\r\n", true, read);
     }
@@ -96,7 +106,7 @@ fn responses_with_spaces_after_names() {
 
 #[test]
 fn responses_without_spaces_after_names() {
-    for config in alone_and_with_all(false) {
+    for config in alone_and_with_others(false, IN_REQUESTS) {
         let read = |head: &[u8]| response(&config, head);
         check("HTTP/1.1 200 OK\r\n", false, read);
     }
@@ -105,8 +115,9 @@ fn responses_without_spaces_after_names() {
 /// The setting is for responses alone.
 #[test]
 fn requests() {
-    for config in [true, false].into_iter().flat_map(alone_and_with_all) {
-        let read = |head: &[u8]| request(&config, head);
+    let configs = [true, false].map(|allowed| alone_and_with_others(allowed, IN_RESPONSES));
+    for config in configs.iter().flatten() {
+        let read = |head: &[u8]| request(config, head);
         check("GET / HTTP/1.1\r\n", false, read);
     }
 }

@@ -3,10 +3,10 @@
 use super::Comparer;
 use crate::numbers::Numbers;
 use crate::position::{is_error, Search};
-use crate::starts::{bytes_at, places, Place};
+use crate::starts::{bytes_at, places};
 use crate::strings::strings;
 use crate::{expected, Case};
-use answers::bits::{self, IGNORING};
+use answers::bits::{self, IGNORING, MULTILINE_HEADERS, SPACE_BEFORE_FIRST_HEADER_NAME};
 use answers::functions::number;
 use answers::{Call, HeadError};
 
@@ -101,38 +101,119 @@ fn mistaken(mistake: Mistake) -> impl Fn(&Case, &mut Numbers) {
     }
 }
 
-/// With how many of the strings at a place of a good head the mistake is seen.
-fn noticed_at((start, rest): Place, call: Call, settings: u32, comparer: &mut Comparer) -> usize {
-    let bytes = bytes_at((start, rest));
-    let mut noticed = 0;
-    for strings in strings(&[(start, DEPTH)], bytes) {
-        strings.each(bytes, |string| {
-            let input = [string, rest].concat();
-            let case = Case {
-                call,
-                slots: 2,
-                remainder: 0,
-                settings,
-                input: &input,
-            };
-            noticed += usize::from(comparer.differ(&case));
-        });
+/// Hands over all strings of up to three bytes at the places of a call's setting, within good heads.
+fn each(call: Call, settings: u32, mut take: impl FnMut(&Case)) {
+    for &(start, rest) in places(call, IGNORING & bits::of(call)) {
+        let bytes = bytes_at((start, rest));
+        for strings in strings(&[(start, DEPTH)], bytes) {
+            strings.each(bytes, |string| {
+                let input = [string, rest].concat();
+                take(&Case {
+                    call,
+                    slots: 2,
+                    remainder: 0,
+                    settings,
+                    input: &input,
+                });
+            });
+        }
     }
+}
+
+/// With how many of these strings the mistake is seen.
+fn count_noticed(call: Call, settings: u32, comparer: &mut Comparer) -> usize {
+    let mut noticed = 0;
+    each(call, settings, |case| {
+        noticed += usize::from(comparer.differ(case));
+    });
     noticed
 }
 
+/// With the setting alone, and with all of the call.
 #[test]
-fn every_mistake_is_noticed_with_the_setting_and_none_without() {
+fn every_mistake_is_noticed() {
     for mistake in MISTAKES {
         let mut comparer = Comparer::of("a wrong library", mistaken(mistake));
         for call in [Call::Request, Call::Response] {
-            let setting = IGNORING & bits::of(call);
-            let (mut with, mut without) = (0, 0);
-            for &place in places(call, setting) {
-                with += noticed_at(place, call, setting, &mut comparer);
-                without += noticed_at(place, call, bits::SUPPORTED & !setting, &mut comparer);
+            for settings in [IGNORING & bits::of(call), bits::of(call)] {
+                let noticed = count_noticed(call, settings, &mut comparer);
+                assert!(noticed > 10, "{call}, {settings}: {noticed}");
             }
-            assert!(with > 10 && without == 0, "{call}: {with}, {without}");
         }
+    }
+}
+
+/// The line behind the wrong one is no first line again: if it begins with a blank, it is passed over too.
+fn not_first_again(input: &mut [u8], wrong: usize) {
+    let mut line_ends = (wrong..input.len()).filter(|&place| input[place] == b'\n');
+    let next = line_ends.next().map(|place| place + 1);
+    if let Some(first) = next.and_then(|next| input.get_mut(next)) {
+        make_wrong_if_blank(first);
+    }
+}
+
+/// A header that is lost with its fold is given: the fold is a line of its own, and passed over alone.
+fn given_without_its_fold(input: &mut [u8], wrong: usize) {
+    let line_end = input[..wrong].iter().rposition(|&byte| byte == b'\n');
+    let first = line_end.map_or(0, |place| place + 1);
+    // A NUL is an error in any line, so no header is lost by it.
+    if input[wrong] != 0 {
+        make_wrong_if_blank(&mut input[first]);
+    }
+}
+
+fn make_wrong_if_blank(byte: &mut u8) {
+    if b" \t".contains(byte) {
+        *byte = 1;
+    }
+}
+
+/// What is a mistake only with another setting: which, and the shortest input on which it is seen.
+const MISTAKES_TOGETHER: [(Mistake, Call, u32, &str); 3] = [
+    (
+        not_first_again,
+        Call::Request,
+        SPACE_BEFORE_FIRST_HEADER_NAME,
+        r#""a a HTTP/1.1\na\n \n""#,
+    ),
+    (
+        not_first_again,
+        Call::Response,
+        SPACE_BEFORE_FIRST_HEADER_NAME,
+        r#""HTTP/1.1 111\na\n \n""#,
+    ),
+    (
+        given_without_its_fold,
+        Call::Response,
+        MULTILINE_HEADERS,
+        r#""HTTP/1.1 111\na:\n \x01""#,
+    ),
+];
+
+/// With both settings, and with all of the call; with the one alone httparse answers the same.
+#[test]
+fn every_mistake_of_settings_together_is_noticed() {
+    for (mistake, call, other, _) in MISTAKES_TOGETHER {
+        let mut comparer = Comparer::of("a wrong library", mistaken(mistake));
+        let alone = IGNORING & bits::of(call);
+        assert_eq!(count_noticed(call, alone, &mut comparer), 0);
+        for settings in [alone | other, bits::of(call)] {
+            let noticed = count_noticed(call, settings, &mut comparer);
+            assert!(noticed > 10, "{call}, {settings}: {noticed}");
+        }
+    }
+}
+
+/// Whichever string gives the mistake away.
+#[test]
+fn a_mistake_of_settings_together_is_told_with_the_shortest_input() {
+    for (mistake, call, other, shortest) in MISTAKES_TOGETHER {
+        let mut comparer = Comparer::of("a wrong library", mistaken(mistake));
+        each(call, IGNORING & bits::of(call) | other, |case| {
+            if comparer.differ(case) {
+                let told = comparer.report(case);
+                assert!(told.contains(&format!("\t{shortest}\n")), "{told}");
+            }
+        });
     }
 }
