@@ -13,8 +13,8 @@ invariant-loop s at slots₀ l n i₀ count₀ slots i count = Kept l n s slots�
 abbrev decreases-loop : tie.decreases-loop
 decreases-loop s at slots₀ l n i₀ count₀ slots i count = length s - i
 
-pub header-block-spec : {M : Type 1} → statement M
-header-block-spec =
+pub header_block_spec : {M : Type 1} → statement M
+header_block_spec =
     tie.close
     (tie.spec
     invariant-loop

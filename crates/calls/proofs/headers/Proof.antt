@@ -5,5 +5,5 @@ use Rattle.agreement.specs.Calls.{headers_promise, headers_fault}
 use Rattle.calls.proofs.headers.Statement.{statement}
 use Rattle.calls.proofs.headers.Tie as tie
 
-pub headers-spec : {M : Type 1} → statement M
-headers-spec = tie.close (tie.spec (λ c κs. search rules) (λ c. search rules) (λ c. let t = c.before.before.headers.ensures in (t, (headers_promise t, headers_fault t))))
+pub headers_spec : {M : Type 1} → statement M
+headers_spec = tie.close (tie.spec (λ c κs. search rules) (λ c. search rules) (λ c. let t = c.before.before.headers.ensures in (t, (headers_promise t, headers_fault t))))

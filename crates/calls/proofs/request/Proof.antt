@@ -7,8 +7,8 @@ use Rattle.agreement.specs.Calls.{request_promise, request_fault}
 use Rattle.calls.proofs.request.Statement.{statement}
 use Rattle.calls.proofs.request.Tie as tie
 
-pub request-spec : {M : Type 1} → statement M
-request-spec =
+pub request_spec : {M : Type 1} → statement M
+request_spec =
     tie.close
     (tie.spec
     (λ c κs. search rules)

@@ -7,8 +7,8 @@ use Rattle.agreement.specs.Calls.{response_promise, response_fault}
 use Rattle.calls.proofs.response.Statement.{statement}
 use Rattle.calls.proofs.response.Tie as tie
 
-pub response-spec : {M : Type 1} → statement M
-response-spec =
+pub response_spec : {M : Type 1} → statement M
+response_spec =
     tie.close
     (tie.spec
     (λ c κs. search rules)

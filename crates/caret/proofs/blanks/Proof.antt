@@ -12,8 +12,8 @@ invariant-loop page₀ at s next₀ i₀ page next i = Unit {0}
 abbrev decreases-loop : tie.decreases-loop
 decreases-loop page₀ at s next₀ i₀ page next i = length s - i
 
-pub blanks-spec : {M : Type 1} → statement M
-blanks-spec =
+pub blanks_spec : {M : Type 1} → statement M
+blanks_spec =
     tie.close
     (tie.spec
     invariant-loop

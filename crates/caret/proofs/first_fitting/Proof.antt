@@ -12,8 +12,8 @@ invariant-loop s room left₀ i₀ left i = i ≤ length s
 abbrev decreases-loop : tie.decreases-loop
 decreases-loop s room left₀ i₀ left i = length s - i
 
-pub first-fitting-spec : {M : Type 1} → statement M
-first-fitting-spec =
+pub first_fitting_spec : {M : Type 1} → statement M
+first_fitting_spec =
     tie.close
     (tie.spec
     invariant-loop

@@ -12,8 +12,8 @@ invariant-loop s room left₀ i₀ left i = i ≤ length s
 abbrev decreases-loop : tie.decreases-loop
 decreases-loop s room left₀ i₀ left i = i
 
-pub last-fitting-spec : {M : Type 1} → statement M
-last-fitting-spec =
+pub last_fitting_spec : {M : Type 1} → statement M
+last_fitting_spec =
     tie.close
     (tie.spec
     invariant-loop

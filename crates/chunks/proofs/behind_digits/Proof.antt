@@ -5,8 +5,8 @@ use Rattle.chunks.specs.Chunk.{behinds}
 use Rattle.chunks.proofs.behind_digits.Statement.{statement}
 use Rattle.chunks.proofs.behind_digits.Tie as tie
 
-pub behind-digits-spec : {M : Type 1} → statement M
-behind-digits-spec =
+pub behind_digits_spec : {M : Type 1} → statement M
+behind_digits_spec =
     tie.close
     (tie.spec
     (λ c κs. search rules)

@@ -13,8 +13,8 @@ invariant-loop s i₀ size₀ i size = Counted s i size
 abbrev decreases-loop : tie.decreases-loop
 decreases-loop s i₀ size₀ i size = length s - i
 
-pub chunk-size-spec : {M : Type 1} → statement M
-chunk-size-spec =
+pub chunk_size_spec : {M : Type 1} → statement M
+chunk_size_spec =
     tie.close
     (tie.spec
     invariant-loop

@@ -5,8 +5,8 @@ use Rattle.chunks.specs.Chunk.{behinds}
 use Rattle.chunks.proofs.extension.Statement.{statement}
 use Rattle.chunks.proofs.extension.Tie as tie
 
-pub extension-spec : {M : Type 1} → statement M
-extension-spec =
+pub extension_spec : {M : Type 1} → statement M
+extension_spec =
     tie.close
     (tie.spec
     (λ c κs. search rules)

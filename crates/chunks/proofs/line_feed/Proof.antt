@@ -5,8 +5,8 @@ use Rattle.chunks.specs.Chunk.{behinds}
 use Rattle.chunks.proofs.line_feed.Statement.{statement}
 use Rattle.chunks.proofs.line_feed.Tie as tie
 
-pub line-feed-spec : {M : Type 1} → statement M
-line-feed-spec =
+pub line_feed_spec : {M : Type 1} → statement M
+line_feed_spec =
     tie.close
     (tie.spec
     (λ c. search (rules, behinds))

@@ -14,8 +14,8 @@ invariant-loop s at i₀ i = Passed is_extension s at i
 abbrev decreases-loop : tie.decreases-loop
 decreases-loop s at i₀ i = length s - i
 
-pub skip-extension-spec : {M : Type 1} → statement M
-skip-extension-spec =
+pub skip_extension_spec : {M : Type 1} → statement M
+skip_extension_spec =
     tie.close
     (tie.spec
     invariant-loop

@@ -5,8 +5,8 @@ use Rattle.chunks.specs.Chunk.{worths}
 use Rattle.chunks.proofs.worth_of.Statement.{statement}
 use Rattle.chunks.proofs.worth_of.Tie as tie
 
-pub worth-of-spec : {M : Type 1} → statement M
-worth-of-spec =
+pub worth_of_spec : {M : Type 1} → statement M
+worth_of_spec =
     tie.close
     (tie.spec
     (λ c. search (rules, worths))

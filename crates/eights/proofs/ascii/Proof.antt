@@ -5,5 +5,5 @@ use Rattle.eights.specs.Ahead.{ahead_none, ahead_eight}
 use Rattle.eights.proofs.ascii.Statement.{statement}
 use Rattle.eights.proofs.ascii.Tie as tie
 
-pub ascii-spec : {M : Type 1} → statement M
-ascii-spec = tie.close (tie.spec (λ c. search rules) (λ c. search (rules, ahead_none)) (λ c κs. search rules) (λ c κs. search rules) (λ c. ahead_eight c.ascii.ensures c.before.eight.ensures (search rules)))
+pub ascii_spec : {M : Type 1} → statement M
+ascii_spec = tie.close (tie.spec (λ c. search rules) (λ c. search (rules, ahead_none)) (λ c κs. search rules) (λ c κs. search rules) (λ c. ahead_eight c.ascii.ensures c.before.eight.ensures (search rules)))

@@ -8,5 +8,5 @@ use Rattle.eights.proofs.eight.Tie as tie
 returns : tie.Need-returns
 returns c = record { number = c.load.ensures; bytes = λ k. (c.before.shared-slice-known.given (c.before.before.args.i + k)).fits }
 
-pub eight-spec : {M : Type 1} → statement M
-eight-spec = tie.close (tie.spec (λ c κs. search rules) returns)
+pub eight_spec : {M : Type 1} → statement M
+eight_spec = tie.close (tie.spec (λ c κs. search rules) returns)

@@ -5,5 +5,5 @@ use Rattle.eights.specs.Ahead.{ahead_none, ahead_eight}
 use Rattle.eights.proofs.token.Statement.{statement}
 use Rattle.eights.proofs.token.Tie as tie
 
-pub token-spec : {M : Type 1} → statement M
-token-spec = tie.close (tie.spec (λ c. search rules) (λ c. search (rules, ahead_none)) (λ c κs. search rules) (λ c κs. search rules) (λ c. ahead_eight c.token.ensures c.before.eight.ensures (search rules)))
+pub token_spec : {M : Type 1} → statement M
+token_spec = tie.close (tie.spec (λ c. search rules) (λ c. search (rules, ahead_none)) (λ c κs. search rules) (λ c κs. search rules) (λ c. ahead_eight c.token.ensures c.before.eight.ensures (search rules)))

@@ -5,8 +5,8 @@ use Rattle.parts.specs.Ways.{ways}
 use Rattle.fields.proofs.block_end.Statement.{statement}
 use Rattle.fields.proofs.block_end.Tie as tie
 
-pub block-end-spec : {M : Type 1} → statement M
-block-end-spec =
+pub block_end_spec : {M : Type 1} → statement M
+block_end_spec =
     tie.close
     (tie.spec
     (λ c κs. search rules)

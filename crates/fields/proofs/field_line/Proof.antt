@@ -5,8 +5,8 @@ use Rattle.parts.specs.Ways.{ways}
 use Rattle.fields.proofs.field_line.Statement.{statement}
 use Rattle.fields.proofs.field_line.Tie as tie
 
-pub field-line-spec : {M : Type 1} → statement M
-field-line-spec =
+pub field_line_spec : {M : Type 1} → statement M
+field_line_spec =
     tie.close
     (tie.spec
     (λ c κs. search rules)

@@ -5,8 +5,8 @@ use Rattle.fields.specs.Line.{fields}
 use Rattle.fields.proofs.header_line.Statement.{statement}
 use Rattle.fields.proofs.header_line.Tie as tie
 
-pub header-line-spec : {M : Type 1} → statement M
-header-line-spec =
+pub header_line_spec : {M : Type 1} → statement M
+header_line_spec =
     tie.close
     (tie.spec
     (λ c. search (rules, fields))

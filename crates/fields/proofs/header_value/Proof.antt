@@ -5,8 +5,8 @@ use Rattle.parts.specs.Ways.{ways}
 use Rattle.fields.proofs.header_value.Statement.{statement}
 use Rattle.fields.proofs.header_value.Tie as tie
 
-pub header-value-spec : {M : Type 1} → statement M
-header-value-spec =
+pub header_value_spec : {M : Type 1} → statement M
+header_value_spec =
     tie.close
     (tie.spec
     (λ c κs. search rules)

@@ -5,5 +5,5 @@ use Rattle.flags.specs.Classes.{sure_ascii}
 use Rattle.flags.proofs.ascii.Statement.{statement}
 use Rattle.flags.proofs.ascii.Tie as tie
 
-pub ascii-spec : {M : Type 1} → statement M
-ascii-spec = tie.close (tie.spec (λ c κs. search rules) (λ c. search (rules, sure_ascii)))
+pub ascii_spec : {M : Type 1} → statement M
+ascii_spec = tie.close (tie.spec (λ c κs. search rules) (λ c. search (rules, sure_ascii)))

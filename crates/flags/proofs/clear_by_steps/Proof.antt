@@ -12,8 +12,8 @@ invariant-loop flags rest₀ count₀ rest count = Counted flags rest count
 abbrev decreases-loop : tie.decreases-loop
 decreases-loop flags rest₀ count₀ rest count = 8 - count
 
-pub clear-by-steps-spec : {M : Type 1} → statement M
-clear-by-steps-spec =
+pub clear_by_steps_spec : {M : Type 1} → statement M
+clear_by_steps_spec =
     tie.close
     (tie.spec
     invariant-loop

@@ -5,5 +5,5 @@ use Rattle.flags.specs.Classes.{sure_target}
 use Rattle.flags.proofs.target.Statement.{statement}
 use Rattle.flags.proofs.target.Tie as tie
 
-pub target-spec : {M : Type 1} → statement M
-target-spec = tie.close (tie.spec (λ c κs. search rules) (λ c κs. search rules) (λ c. search (rules, sure_target)))
+pub target_spec : {M : Type 1} → statement M
+target_spec = tie.close (tie.spec (λ c κs. search rules) (λ c κs. search rules) (λ c. search (rules, sure_target)))

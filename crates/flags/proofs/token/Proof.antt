@@ -5,5 +5,5 @@ use Rattle.flags.specs.Classes.{sure_token}
 use Rattle.flags.proofs.token.Statement.{statement}
 use Rattle.flags.proofs.token.Tie as tie
 
-pub token-spec : {M : Type 1} → statement M
-token-spec = tie.close (tie.spec (λ c κs. search rules) (λ c κs. search rules) (λ c. search (rules, sure_token)))
+pub token_spec : {M : Type 1} → statement M
+token_spec = tie.close (tie.spec (λ c κs. search rules) (λ c κs. search rules) (λ c. search (rules, sure_token)))

@@ -6,8 +6,8 @@ use lib.Bits.{and_le_r}
 use Rattle.flags.proofs.token_flags.Statement.{statement}
 use Rattle.flags.proofs.token_flags.Tie as tie
 
-pub token-flags-spec : {M : Type 1} → statement M
-token-flags-spec =
+pub token_flags_spec : {M : Type 1} → statement M
+token_flags_spec =
     tie.close
     (tie.spec
     (λ c. omega (arith, and_le_r c.args.x 0x5f5f5f5f5f5f5f5f))

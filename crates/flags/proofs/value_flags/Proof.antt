@@ -6,5 +6,5 @@ use lib.Bits.{and_le_r}
 use Rattle.flags.proofs.value_flags.Statement.{statement}
 use Rattle.flags.proofs.value_flags.Tie as tie
 
-pub value-flags-spec : {M : Type 1} → statement M
-value-flags-spec = tie.close (tie.spec (λ c. omega (arith, and_le_r c.args.x 0x7f7f7f7f7f7f7f7f)) (λ c. omega (arith, and_le_r c.args.x 0x7f7f7f7f7f7f7f7f)) (λ c. search rules))
+pub value_flags_spec : {M : Type 1} → statement M
+value_flags_spec = tie.close (tie.spec (λ c. omega (arith, and_le_r c.args.x 0x7f7f7f7f7f7f7f7f)) (λ c. omega (arith, and_le_r c.args.x 0x7f7f7f7f7f7f7f7f)) (λ c. search rules))

@@ -5,5 +5,5 @@ use Rattle.flags.specs.Classes.{sure_visible}
 use Rattle.flags.proofs.visible.Statement.{statement}
 use Rattle.flags.proofs.visible.Tie as tie
 
-pub visible-spec : {M : Type 1} → statement M
-visible-spec = tie.close (tie.spec (λ c κs. search rules) (λ c κs. search rules) (λ c. search (rules, sure_visible)))
+pub visible_spec : {M : Type 1} → statement M
+visible_spec = tie.close (tie.spec (λ c κs. search rules) (λ c κs. search rules) (λ c. search (rules, sure_visible)))

@@ -6,5 +6,5 @@ use lib.Bits.{and_le_r}
 use Rattle.flags.proofs.visible_flags.Statement.{statement}
 use Rattle.flags.proofs.visible_flags.Tie as tie
 
-pub visible-flags-spec : {M : Type 1} → statement M
-visible-flags-spec = tie.close (tie.spec (λ c. omega (arith, and_le_r c.args.x 0x7f7f7f7f7f7f7f7f)) (λ c. omega (arith, and_le_r c.args.x 0x7f7f7f7f7f7f7f7f)) (λ c. search rules))
+pub visible_flags_spec : {M : Type 1} → statement M
+visible_flags_spec = tie.close (tie.spec (λ c. omega (arith, and_le_r c.args.x 0x7f7f7f7f7f7f7f7f)) (λ c. omega (arith, and_le_r c.args.x 0x7f7f7f7f7f7f7f7f)) (λ c. search rules))

@@ -5,8 +5,8 @@ use Rattle.folds.specs.Folded.{joins}
 use Rattle.folds.proofs.joined.Statement.{statement}
 use Rattle.folds.proofs.joined.Tie as tie
 
-pub joined-spec : {M : Type 1} → statement M
-joined-spec =
+pub joined_spec : {M : Type 1} → statement M
+joined_spec =
     tie.close
     (tie.spec
     (λ c. search (rules, joins))

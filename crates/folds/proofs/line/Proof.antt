@@ -6,8 +6,8 @@ use Rattle.folds.specs.Folded.{line_is}
 use Rattle.folds.proofs.line.Statement.{statement}
 use Rattle.folds.proofs.line.Tie as tie
 
-pub line-spec : {M : Type 1} → statement M
-line-spec =
+pub line_spec : {M : Type 1} → statement M
+line_spec =
     tie.close
     (tie.spec
     (λ c κs. search rules)

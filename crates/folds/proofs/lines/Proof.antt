@@ -13,8 +13,8 @@ invariant-loop s at multiline i₀ value₀ i value = Kept multiline s at i valu
 abbrev decreases-loop : tie.decreases-loop
 decreases-loop s at multiline i₀ value₀ i value = length s - i
 
-pub lines-spec : {M : Type 1} → statement M
-lines-spec =
+pub lines_spec : {M : Type 1} → statement M
+lines_spec =
     tie.close
     (tie.spec
     invariant-loop

@@ -6,8 +6,8 @@ use Rattle.formlines.specs.Lines.{number_most, code_put}
 use Rattle.formlines.proofs.code.Statement.{statement}
 use Rattle.formlines.proofs.code.Tie as tie
 
-pub code-spec : {M : Type 1} → statement M
-code-spec =
+pub code_spec : {M : Type 1} → statement M
+code_spec =
     tie.close
     (tie.spec
     (λ c κs. search rules)

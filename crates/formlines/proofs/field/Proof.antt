@@ -14,8 +14,8 @@ returns c =
     let a = b.before.before.before.before.before in
     adds_then (adds_then (adds_then (adds_then a.piece.ensures b.put.ensures.0) c.put2.ensures.0) d.piece2.ensures) e.put3.ensures.0
 
-pub field-spec : {M : Type 1} → statement M
-field-spec =
+pub field_spec : {M : Type 1} → statement M
+field_spec =
     tie.close
     (tie.spec
     (λ c. search rules)

@@ -13,8 +13,8 @@ invariant-loop out₀ at s slots count next₀ k₀ t8 out next k = Lined s slot
 abbrev decreases-loop : tie.decreases-loop
 decreases-loop out₀ at s slots count next₀ k₀ t8 out next k = count - k
 
-pub fields-spec : {M : Type 1} → statement M
-fields-spec =
+pub fields_spec : {M : Type 1} → statement M
+fields_spec =
     tie.close
     (tie.spec
     invariant-loop

@@ -5,8 +5,8 @@ use Rattle.formlines.specs.Lines.{piece_lies, known_piece, unknown_piece}
 use Rattle.formlines.proofs.known_piece.Statement.{statement}
 use Rattle.formlines.proofs.known_piece.Tie as tie
 
-pub known-piece-spec : {M : Type 1} → statement M
-known-piece-spec =
+pub known_piece_spec : {M : Type 1} → statement M
+known_piece_spec =
     tie.close
     (tie.spec
     (λ c. search rules)

@@ -5,8 +5,8 @@ use Rattle.formlines.specs.Lines.{piece_put}
 use Rattle.formlines.proofs.piece.Statement.{statement}
 use Rattle.formlines.proofs.piece.Tie as tie
 
-pub piece-spec : {M : Type 1} → statement M
-piece-spec =
+pub piece_spec : {M : Type 1} → statement M
+piece_spec =
     tie.close
     (tie.spec
     (λ c. search rules)

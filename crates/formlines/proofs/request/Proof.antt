@@ -5,8 +5,8 @@ use Rattle.output.specs.Put.{adds_then}
 use Rattle.formlines.proofs.request.Statement.{statement}
 use Rattle.formlines.proofs.request.Tie as tie
 
-pub request-spec : {M : Type 1} → statement M
-request-spec =
+pub request_spec : {M : Type 1} → statement M
+request_spec =
     tie.close
     (tie.spec
     (λ c κs. search rules)

@@ -15,8 +15,8 @@ returns c =
     let a = b.before.before.before.before.before in
     adds_then (adds_then (adds_then (adds_then (adds_then a.known_piece.ensures b.put.ensures.0) c.known-piece2.ensures) d.put2.ensures.0) e.version.ensures) f.put3.ensures.0
 
-pub request-line-spec : {M : Type 1} → statement M
-request-line-spec =
+pub request_line_spec : {M : Type 1} → statement M
+request_line_spec =
     tie.close
     (tie.spec
     (λ c κs. search rules)

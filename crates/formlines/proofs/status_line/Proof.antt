@@ -15,8 +15,8 @@ returns c =
     let a = b.before.before.before.before.before in
     adds_then (adds_then (adds_then (adds_then (adds_then a.version.ensures b.put.ensures.0) c.code.ensures) d.put2.ensures.0) e.known_piece.ensures) f.put3.ensures.0
 
-pub status-line-spec : {M : Type 1} → statement M
-status-line-spec =
+pub status_line_spec : {M : Type 1} → statement M
+status_line_spec =
     tie.close
     (tie.spec
     (λ c κs. search rules)

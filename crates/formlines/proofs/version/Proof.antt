@@ -6,8 +6,8 @@ use Rattle.formlines.specs.Lines.{number_most, version_put}
 use Rattle.formlines.proofs.version.Statement.{statement}
 use Rattle.formlines.proofs.version.Tie as tie
 
-pub version-spec : {M : Type 1} → statement M
-version-spec =
+pub version_spec : {M : Type 1} → statement M
+version_spec =
     tie.close
     (tie.spec
     (λ c κs. search rules)

@@ -5,8 +5,8 @@ use Rattle.gaps.specs.Gap.{gaps}
 use Rattle.gaps.proofs.blanks.Statement.{statement}
 use Rattle.gaps.proofs.blanks.Tie as tie
 
-pub blanks-spec : {M : Type 1} → statement M
-blanks-spec =
+pub blanks_spec : {M : Type 1} → statement M
+blanks_spec =
     tie.close
     (tie.spec
     (λ c κs. search rules)

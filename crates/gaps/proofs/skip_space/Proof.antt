@@ -14,8 +14,8 @@ invariant-loop s at i₀ i = Passed is_space s at i
 abbrev decreases-loop : tie.decreases-loop
 decreases-loop s at i₀ i = length s - i
 
-pub skip-space-spec : {M : Type 1} → statement M
-skip-space-spec =
+pub skip_space_spec : {M : Type 1} → statement M
+skip_space_spec =
     tie.close
     (tie.spec
     invariant-loop

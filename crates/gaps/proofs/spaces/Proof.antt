@@ -5,8 +5,8 @@ use Rattle.gaps.specs.Gap.{gaps}
 use Rattle.gaps.proofs.spaces.Statement.{statement}
 use Rattle.gaps.proofs.spaces.Tie as tie
 
-pub spaces-spec : {M : Type 1} → statement M
-spaces-spec =
+pub spaces_spec : {M : Type 1} → statement M
+spaces_spec =
     tie.close
     (tie.spec
     (λ c κs. search rules)

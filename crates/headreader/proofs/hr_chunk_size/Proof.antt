@@ -5,8 +5,8 @@ use Rattle.headreader.specs.Laws.{size_told}
 use Rattle.headreader.proofs.hr_chunk_size.Statement.{statement}
 use Rattle.headreader.proofs.hr_chunk_size.Tie as tie
 
-pub hr-chunk-size-spec : {M : Type 1} → statement M
-hr-chunk-size-spec =
+pub hr_chunk_size_spec : {M : Type 1} → statement M
+hr_chunk_size_spec =
     tie.close
     (tie.spec
     (λ c κs. search rules)

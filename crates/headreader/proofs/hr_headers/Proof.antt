@@ -5,8 +5,8 @@ use Rattle.headreader.specs.Laws.{block_numbers_lem}
 use Rattle.headreader.proofs.hr_headers.Statement.{statement}
 use Rattle.headreader.proofs.hr_headers.Tie as tie
 
-pub hr-headers-spec : {M : Type 1} → statement M
-hr-headers-spec =
+pub hr_headers_spec : {M : Type 1} → statement M
+hr_headers_spec =
     tie.close
     (tie.spec
     (λ c κs. search rules)

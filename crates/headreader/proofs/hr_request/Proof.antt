@@ -5,8 +5,8 @@ use Rattle.headreader.specs.Laws.{request_by}
 use Rattle.headreader.proofs.hr_request.Statement.{statement}
 use Rattle.headreader.proofs.hr_request.Tie as tie
 
-pub hr-request-spec : {M : Type 1} → statement M
-hr-request-spec =
+pub hr_request_spec : {M : Type 1} → statement M
+hr_request_spec =
     tie.close
     (tie.spec
     (λ c κs. search rules)

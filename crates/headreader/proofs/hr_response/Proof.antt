@@ -5,8 +5,8 @@ use Rattle.headreader.specs.Laws.{response_by}
 use Rattle.headreader.proofs.hr_response.Statement.{statement}
 use Rattle.headreader.proofs.hr_response.Tie as tie
 
-pub hr-response-spec : {M : Type 1} → statement M
-hr-response-spec =
+pub hr_response_spec : {M : Type 1} → statement M
+hr_response_spec =
     tie.close
     (tie.spec
     (λ c κs. search rules)

@@ -5,8 +5,8 @@ use Rattle.heads.specs.Calls.{calls}
 use Rattle.heads.proofs.request.Statement.{statement}
 use Rattle.heads.proofs.request.Tie as tie
 
-pub request-spec : {M : Type 1} → statement M
-request-spec =
+pub request_spec : {M : Type 1} → statement M
+request_spec =
     tie.close
     (tie.spec
     (λ c κs. search rules)

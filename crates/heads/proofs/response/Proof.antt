@@ -5,8 +5,8 @@ use Rattle.heads.specs.Calls.{calls}
 use Rattle.heads.proofs.response.Statement.{statement}
 use Rattle.heads.proofs.response.Tie as tie
 
-pub response-spec : {M : Type 1} → statement M
-response-spec =
+pub response_spec : {M : Type 1} → statement M
+response_spec =
     tie.close
     (tie.spec
     (λ c κs. search rules)

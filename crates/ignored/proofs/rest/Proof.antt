@@ -5,8 +5,8 @@ use Rattle.ignored.specs.Rest.{rests}
 use Rattle.ignored.proofs.rest.Statement.{statement}
 use Rattle.ignored.proofs.rest.Tie as tie
 
-pub rest-spec : {M : Type 1} → statement M
-rest-spec =
+pub rest_spec : {M : Type 1} → statement M
+rest_spec =
     tie.close
     (tie.spec
     (λ c κs. search rules)

@@ -14,8 +14,8 @@ invariant-loop s at i₀ i = Passed is_ignorable s at i
 abbrev decreases-loop : tie.decreases-loop
 decreases-loop s at i₀ i = length s - i
 
-pub skip-ignorable-spec : {M : Type 1} → statement M
-skip-ignorable-spec =
+pub skip_ignorable_spec : {M : Type 1} → statement M
+skip_ignorable_spec =
     tie.close
     (tie.spec
     invariant-loop

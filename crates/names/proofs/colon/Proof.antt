@@ -5,8 +5,8 @@ use Rattle.names.specs.Colon.{behind}
 use Rattle.names.proofs.colon.Statement.{statement}
 use Rattle.names.proofs.colon.Tie as tie
 
-pub colon-spec : {M : Type 1} → statement M
-colon-spec =
+pub colon_spec : {M : Type 1} → statement M
+colon_spec =
     tie.close
     (tie.spec
     (λ c κs. search rules)

@@ -5,8 +5,8 @@ use Rattle.numbers.specs.Laws.{empty_piece, long_piece}
 use Rattle.numbers.proofs.placed_piece.Statement.{statement}
 use Rattle.numbers.proofs.placed_piece.Tie as tie
 
-pub placed-piece-spec : {M : Type 1} → statement M
-placed-piece-spec =
+pub placed_piece_spec : {M : Type 1} → statement M
+placed_piece_spec =
     tie.close
     (tie.spec
     (λ c. search (rules, empty_piece, long_piece))

@@ -5,8 +5,8 @@ use Rattle.numbers.specs.Laws.{request_numbers_lem}
 use Rattle.numbers.proofs.put_request.Statement.{statement}
 use Rattle.numbers.proofs.put_request.Tie as tie
 
-pub put-request-spec : {M : Type 1} → statement M
-put-request-spec =
+pub put_request_spec : {M : Type 1} → statement M
+put_request_spec =
     tie.close
     (tie.spec
     (λ c κs. search rules)

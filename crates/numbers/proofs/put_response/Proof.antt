@@ -5,8 +5,8 @@ use Rattle.numbers.specs.Laws.{response_numbers_lem}
 use Rattle.numbers.proofs.put_response.Statement.{statement}
 use Rattle.numbers.proofs.put_response.Tie as tie
 
-pub put-response-spec : {M : Type 1} → statement M
-put-response-spec =
+pub put_response_spec : {M : Type 1} → statement M
+put_response_spec =
     tie.close
     (tie.spec
     (λ c κs. search rules)

@@ -5,5 +5,5 @@ use Rattle.octets.proofs.Tests.{tests}
 use Rattle.octets.proofs.is_ascii.Statement.{statement}
 use Rattle.octets.proofs.is_ascii.Tie as tie
 
-pub is-ascii-spec : {M : Type 1} → statement M
-is-ascii-spec = tie.close (tie.spec (λ c. search (rules, tests)))
+pub is_ascii_spec : {M : Type 1} → statement M
+is_ascii_spec = tie.close (tie.spec (λ c. search (rules, tests)))

@@ -5,5 +5,5 @@ use Rattle.octets.proofs.Tests.{tests}
 use Rattle.octets.proofs.is_blank.Statement.{statement}
 use Rattle.octets.proofs.is_blank.Tie as tie
 
-pub is-blank-spec : {M : Type 1} → statement M
-is-blank-spec = tie.close (tie.spec (λ c. search (rules, tests)))
+pub is_blank_spec : {M : Type 1} → statement M
+is_blank_spec = tie.close (tie.spec (λ c. search (rules, tests)))

@@ -5,5 +5,5 @@ use Rattle.octets.proofs.Tests.{tests}
 use Rattle.octets.proofs.is_hex_digit.Statement.{statement}
 use Rattle.octets.proofs.is_hex_digit.Tie as tie
 
-pub is-hex-digit-spec : {M : Type 1} → statement M
-is-hex-digit-spec = tie.close (tie.spec (λ c. search (rules, tests)))
+pub is_hex_digit_spec : {M : Type 1} → statement M
+is_hex_digit_spec = tie.close (tie.spec (λ c. search (rules, tests)))

@@ -5,5 +5,5 @@ use Rattle.octets.proofs.Tests.{tests}
 use Rattle.octets.proofs.is_target.Statement.{statement}
 use Rattle.octets.proofs.is_target.Tie as tie
 
-pub is-target-spec : {M : Type 1} → statement M
-is-target-spec = tie.close (tie.spec (λ c. search (rules, tests)))
+pub is_target_spec : {M : Type 1} → statement M
+is_target_spec = tie.close (tie.spec (λ c. search (rules, tests)))

@@ -9,5 +9,5 @@ use Rattle.octets.proofs.is_token.Tie as tie
 returns : tie.Need-returns
 returns c = ⊎_elim (λ w. search (rules, tests)) (λ w. search (rules, tests)) c.before.if1.branch
 
-pub is-token-spec : {M : Type 1} → statement M
-is-token-spec = tie.close (tie.spec (λ c. search rules) (λ c. search rules) returns)
+pub is_token_spec : {M : Type 1} → statement M
+is_token_spec = tie.close (tie.spec (λ c. search rules) (λ c. search rules) returns)

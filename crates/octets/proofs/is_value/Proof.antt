@@ -5,5 +5,5 @@ use Rattle.octets.proofs.Tests.{tests}
 use Rattle.octets.proofs.is_value.Statement.{statement}
 use Rattle.octets.proofs.is_value.Tie as tie
 
-pub is-value-spec : {M : Type 1} → statement M
-is-value-spec = tie.close (tie.spec (λ c. search (rules, tests)))
+pub is_value_spec : {M : Type 1} → statement M
+is_value_spec = tie.close (tie.spec (λ c. search (rules, tests)))

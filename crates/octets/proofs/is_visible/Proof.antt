@@ -5,5 +5,5 @@ use Rattle.octets.proofs.Tests.{tests}
 use Rattle.octets.proofs.is_visible.Statement.{statement}
 use Rattle.octets.proofs.is_visible.Tie as tie
 
-pub is-visible-spec : {M : Type 1} → statement M
-is-visible-spec = tie.close (tie.spec (λ c. search (rules, tests)))
+pub is_visible_spec : {M : Type 1} → statement M
+is_visible_spec = tie.close (tie.spec (λ c. search (rules, tests)))

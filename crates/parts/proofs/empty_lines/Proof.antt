@@ -13,8 +13,8 @@ invariant-loop s at i₀ i = Empty s at i
 abbrev decreases-loop : tie.decreases-loop
 decreases-loop s at i₀ i = length s - i
 
-pub empty-lines-spec : {M : Type 1} → statement M
-empty-lines-spec =
+pub empty_lines_spec : {M : Type 1} → statement M
+empty_lines_spec =
     tie.close
     (tie.spec
     invariant-loop

@@ -5,8 +5,8 @@ use Rattle.parts.specs.LineEnd.{line_ends}
 use Rattle.parts.proofs.line_end.Statement.{statement}
 use Rattle.parts.proofs.line_end.Tie as tie
 
-pub line-end-spec : {M : Type 1} → statement M
-line-end-spec =
+pub line_end_spec : {M : Type 1} → statement M
+line_end_spec =
     tie.close
     (tie.spec
     (λ c. search (rules, line_ends))

@@ -5,8 +5,8 @@ use Rattle.places.specs.Checks.{checks}
 use Rattle.places.proofs.complete.Statement.{statement}
 use Rattle.places.proofs.complete.Tie as tie
 
-pub complete-spec : {M : Type 1} → statement M
-complete-spec =
+pub complete_spec : {M : Type 1} → statement M
+complete_spec =
     tie.close
     (tie.spec
     (λ c. search rules)

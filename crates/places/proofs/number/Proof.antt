@@ -5,8 +5,8 @@ use Rattle.places.specs.Checks.{checks}
 use Rattle.places.proofs.number.Statement.{statement}
 use Rattle.places.proofs.number.Tie as tie
 
-pub number-spec : {M : Type 1} → statement M
-number-spec =
+pub number_spec : {M : Type 1} → statement M
+number_spec =
     tie.close
     (tie.spec
     (λ c. search rules)

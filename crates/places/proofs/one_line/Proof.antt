@@ -12,8 +12,8 @@ invariant-loop s slots count k₀ k = LinesSoFar s slots count k
 abbrev decreases-loop : tie.decreases-loop
 decreases-loop s slots count k₀ k = count - k
 
-pub one-line-spec : {M : Type 1} → statement M
-one-line-spec =
+pub one_line_spec : {M : Type 1} → statement M
+one_line_spec =
     tie.close
     (tie.spec
     invariant-loop

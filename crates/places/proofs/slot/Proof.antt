@@ -5,8 +5,8 @@ use Rattle.places.specs.Checks.{lies}
 use Rattle.places.proofs.slot.Statement.{statement}
 use Rattle.places.proofs.slot.Tie as tie
 
-pub slot-spec : {M : Type 1} → statement M
-slot-spec =
+pub slot_spec : {M : Type 1} → statement M
+slot_spec =
     tie.close
     (tie.spec
     (λ c. search rules)

@@ -12,8 +12,8 @@ invariant-loop s slots count k₀ k = Checked s slots count k
 abbrev decreases-loop : tie.decreases-loop
 decreases-loop s slots count k₀ k = count - k
 
-pub slots-spec : {M : Type 1} → statement M
-slots-spec =
+pub slots_spec : {M : Type 1} → statement M
+slots_spec =
     tie.close
     (tie.spec
     invariant-loop

@@ -5,8 +5,8 @@ use Rattle.places.specs.Checks.{lies}
 use Rattle.places.proofs.slots_on_one_line.Statement.{statement}
 use Rattle.places.proofs.slots_on_one_line.Tie as tie
 
-pub slots-on-one-line-spec : {M : Type 1} → statement M
-slots-on-one-line-spec =
+pub slots_on_one_line_spec : {M : Type 1} → statement M
+slots_on_one_line_spec =
     tie.close
     (tie.spec
     (λ c κs. search rules)

@@ -12,8 +12,8 @@ invariant-loop s offset size k₀ k = LineSoFar s offset size k
 abbrev decreases-loop : tie.decreases-loop
 decreases-loop s offset size k₀ k = size - k
 
-pub value-on-one-line-spec : {M : Type 1} → statement M
-value-on-one-line-spec =
+pub value_on_one_line_spec : {M : Type 1} → statement M
+value_on_one_line_spec =
     tie.close
     (tie.spec
     invariant-loop

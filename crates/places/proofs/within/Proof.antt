@@ -5,8 +5,8 @@ use Rattle.places.specs.Checks.{checks}
 use Rattle.places.proofs.within.Statement.{statement}
 use Rattle.places.proofs.within.Tie as tie
 
-pub within-spec : {M : Type 1} → statement M
-within-spec =
+pub within_spec : {M : Type 1} → statement M
+within_spec =
     tie.close
     (tie.spec
     (λ c. search (rules, checks))

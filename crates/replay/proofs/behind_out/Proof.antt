@@ -10,8 +10,8 @@ invariant-loop s at out next₀ k₀ next k = Unit {0}
 abbrev decreases-loop : tie.decreases-loop
 decreases-loop s at out next₀ k₀ next k = 8 - k
 
-pub behind-out-spec : {M : Type 1} → statement M
-behind-out-spec =
+pub behind_out_spec : {M : Type 1} → statement M
+behind_out_spec =
     tie.close
     (tie.spec
     invariant-loop

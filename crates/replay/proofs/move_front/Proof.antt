@@ -10,8 +10,8 @@ invariant-loop buffer₀ from end i₀ k₀ buffer i k = (k ≤ i) × (i ≤ end
 abbrev decreases-loop : tie.decreases-loop
 decreases-loop buffer₀ from end i₀ k₀ buffer i k = end - i
 
-pub move-front-spec : {M : Type 1} → statement M
-move-front-spec =
+pub move_front_spec : {M : Type 1} → statement M
+move_front_spec =
     tie.close
     (tie.spec
     invariant-loop

@@ -10,8 +10,8 @@ invariant-loop s at₀ rows₀ differ₀ at rows differ = at ≤ length s
 abbrev decreases-loop : tie.decreases-loop
 decreases-loop s at₀ rows₀ differ₀ at rows differ = length s - at
 
-pub replay-rows-spec : {M : Type 1} → statement M
-replay-rows-spec =
+pub replay_rows_spec : {M : Type 1} → statement M
+replay_rows_spec =
     tie.close
     (tie.spec
     invariant-loop

@@ -10,8 +10,8 @@ invariant-loop s at i₀ i = (at ≤ i) × (i ≤ length s)
 abbrev decreases-loop : tie.decreases-loop
 decreases-loop s at i₀ i = length s - i
 
-pub row-end-spec : {M : Type 1} → statement M
-row-end-spec =
+pub row_end_spec : {M : Type 1} → statement M
+row_end_spec =
     tie.close
     (tie.spec
     invariant-loop

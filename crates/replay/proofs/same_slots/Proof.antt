@@ -10,8 +10,8 @@ invariant-loop s at slots written next₀ k₀ next k = Unit {0}
 abbrev decreases-loop : tie.decreases-loop
 decreases-loop s at slots written next₀ k₀ next k = length slots - k
 
-pub same-slots-spec : {M : Type 1} → statement M
-same-slots-spec =
+pub same_slots_spec : {M : Type 1} → statement M
+same_slots_spec =
     tie.close
     (tie.spec
     invariant-loop

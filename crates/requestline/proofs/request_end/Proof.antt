@@ -5,8 +5,8 @@ use Rattle.startline.specs.Answers.{tell_last}
 use Rattle.requestline.proofs.request_end.Statement.{statement}
 use Rattle.requestline.proofs.request_end.Tie as tie
 
-pub request-end-spec : {M : Type 1} → statement M
-request-end-spec =
+pub request_end_spec : {M : Type 1} → statement M
+request_end_spec =
     tie.close
     (tie.spec
     (λ c κs. search rules)

@@ -6,8 +6,8 @@ use Rattle.requestline.specs.RequestLine.{request_line_whole}
 use Rattle.requestline.proofs.request_line.Statement.{statement}
 use Rattle.requestline.proofs.request_line.Tie as tie
 
-pub request-line-spec : {M : Type 1} → statement M
-request-line-spec =
+pub request_line_spec : {M : Type 1} → statement M
+request_line_spec =
     tie.close
     (tie.spec
     (λ c κs. search rules)

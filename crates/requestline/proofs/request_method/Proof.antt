@@ -5,8 +5,8 @@ use Rattle.parts.specs.Ways.{ways}
 use Rattle.requestline.proofs.request_method.Statement.{statement}
 use Rattle.requestline.proofs.request_method.Tie as tie
 
-pub request-method-spec : {M : Type 1} → statement M
-request-method-spec =
+pub request_method_spec : {M : Type 1} → statement M
+request_method_spec =
     tie.close
     (tie.spec
     (λ c κs. search rules)

@@ -6,8 +6,8 @@ use Rattle.requestline.specs.RequestLine.{gapped}
 use Rattle.requestline.proofs.request_target.Statement.{statement}
 use Rattle.requestline.proofs.request_target.Tie as tie
 
-pub request-target-spec : {M : Type 1} → statement M
-request-target-spec =
+pub request_target_spec : {M : Type 1} → statement M
+request_target_spec =
     tie.close
     (tie.spec
     (λ c κs. search rules)

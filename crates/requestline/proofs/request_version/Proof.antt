@@ -6,8 +6,8 @@ use Rattle.requestline.specs.RequestLine.{gapped}
 use Rattle.requestline.proofs.request_version.Statement.{statement}
 use Rattle.requestline.proofs.request_version.Tie as tie
 
-pub request-version-spec : {M : Type 1} → statement M
-request-version-spec =
+pub request_version_spec : {M : Type 1} → statement M
+request_version_spec =
     tie.close
     (tie.spec
     (λ c κs. search rules)

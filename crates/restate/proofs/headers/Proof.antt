@@ -5,5 +5,5 @@ use Rattle.restate.specs.Restated.{restated_headers}
 use Rattle.restate.proofs.headers.Statement.{statement}
 use Rattle.restate.proofs.headers.Tie as tie
 
-pub headers-spec : {M : Type 1} → statement M
-headers-spec = tie.close (tie.spec (λ c. search rules) (λ c κs. search rules) (λ c. search rules) (λ c κs. search rules) (λ c. search (rules, restated_headers)))
+pub headers_spec : {M : Type 1} → statement M
+headers_spec = tie.close (tie.spec (λ c. search rules) (λ c κs. search rules) (λ c. search rules) (λ c κs. search rules) (λ c. search (rules, restated_headers)))

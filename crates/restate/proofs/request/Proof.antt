@@ -5,5 +5,5 @@ use Rattle.restate.specs.Restated.{restated_request}
 use Rattle.restate.proofs.request.Statement.{statement}
 use Rattle.restate.proofs.request.Tie as tie
 
-pub request-spec : {M : Type 1} → statement M
-request-spec = tie.close (tie.spec (λ c. search rules) (λ c κs. search rules) (λ c. search rules) (λ c κs. search rules) (λ c. search (rules, restated_request)))
+pub request_spec : {M : Type 1} → statement M
+request_spec = tie.close (tie.spec (λ c. search rules) (λ c κs. search rules) (λ c. search rules) (λ c κs. search rules) (λ c. search (rules, restated_request)))

@@ -5,5 +5,5 @@ use Rattle.restate.specs.Restated.{restated_response}
 use Rattle.restate.proofs.response.Statement.{statement}
 use Rattle.restate.proofs.response.Tie as tie
 
-pub response-spec : {M : Type 1} → statement M
-response-spec = tie.close (tie.spec (λ c. search rules) (λ c κs. search rules) (λ c. search rules) (λ c κs. search rules) (λ c. search (rules, restated_response)))
+pub response_spec : {M : Type 1} → statement M
+response_spec = tie.close (tie.spec (λ c. search rules) (λ c κs. search rules) (λ c. search rules) (λ c κs. search rules) (λ c. search (rules, restated_response)))

@@ -5,8 +5,8 @@ use Rattle.restate.specs.Restated.{restatements}
 use Rattle.restate.proofs.restate.Statement.{statement}
 use Rattle.restate.proofs.restate.Tie as tie
 
-pub restate-spec : {M : Type 1} → statement M
-restate-spec =
+pub restate_spec : {M : Type 1} → statement M
+restate_spec =
     tie.close
     (tie.spec
     (λ c. search rules)

@@ -5,8 +5,8 @@ use Rattle.rowread.specs.Reading.{next_request, used_request}
 use Rattle.rows.proofs.next_request.Statement.{statement}
 use Rattle.rows.proofs.next_request.Tie as tie
 
-pub next-request-spec : {M : Type 1} → statement M
-next-request-spec =
+pub next_request_spec : {M : Type 1} → statement M
+next_request_spec =
     tie.close
     (tie.spec
     (λ c. search rules)

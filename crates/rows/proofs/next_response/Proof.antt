@@ -5,8 +5,8 @@ use Rattle.rowread.specs.Reading.{next_response, used_response}
 use Rattle.rows.proofs.next_response.Statement.{statement}
 use Rattle.rows.proofs.next_response.Tie as tie
 
-pub next-response-spec : {M : Type 1} → statement M
-next-response-spec =
+pub next_response_spec : {M : Type 1} → statement M
+next_response_spec =
     tie.close
     (tie.spec
     (λ c. search rules)

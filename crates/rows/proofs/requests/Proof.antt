@@ -30,8 +30,8 @@ add_position c =
     let h = reading_wrong_within n.before.before.before.before.loop.invariant n.next_request.ensures.0 c.before.before.end2.given.1 in
     search (rules, h)
 
-pub requests-spec : {M : Type 1} → statement M
-requests-spec =
+pub requests_spec : {M : Type 1} → statement M
+requests_spec =
     tie.close
     (tie.spec
     invariant-loop

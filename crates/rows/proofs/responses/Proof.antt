@@ -30,8 +30,8 @@ add_position c =
     let h = reading_wrong_within n.before.before.before.before.loop.invariant n.next_response.ensures.0 c.before.before.end2.given.1 in
     search (rules, h)
 
-pub responses-spec : {M : Type 1} → statement M
-responses-spec =
+pub responses_spec : {M : Type 1} → statement M
+responses_spec =
     tie.close
     (tie.spec
     invariant-loop

@@ -14,8 +14,8 @@ invariant-loop s at i₀ i = Passed is_value s at i
 abbrev decreases-loop : tie.decreases-loop
 decreases-loop s at i₀ i = length s - i
 
-pub last-values-spec : {M : Type 1} → statement M
-last-values-spec =
+pub last_values_spec : {M : Type 1} → statement M
+last_values_spec =
     tie.close
     (tie.spec
     invariant-loop

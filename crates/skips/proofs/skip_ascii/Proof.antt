@@ -15,8 +15,8 @@ invariant-loop s at i₀ i = Passed is_ascii s at i
 abbrev decreases-loop : tie.decreases-loop
 decreases-loop s at i₀ i = length s - i
 
-pub skip-ascii-spec : {M : Type 1} → statement M
-skip-ascii-spec =
+pub skip_ascii_spec : {M : Type 1} → statement M
+skip_ascii_spec =
     tie.close
     (tie.spec
     invariant-loop

@@ -14,8 +14,8 @@ invariant-loop s at i₀ i = Passed is_blank s at i
 abbrev decreases-loop : tie.decreases-loop
 decreases-loop s at i₀ i = length s - i
 
-pub skip-blank-spec : {M : Type 1} → statement M
-skip-blank-spec =
+pub skip_blank_spec : {M : Type 1} → statement M
+skip_blank_spec =
     tie.close
     (tie.spec
     invariant-loop

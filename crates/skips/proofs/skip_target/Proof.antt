@@ -15,8 +15,8 @@ invariant-loop s at i₀ i = Passed is_target s at i
 abbrev decreases-loop : tie.decreases-loop
 decreases-loop s at i₀ i = length s - i
 
-pub skip-target-spec : {M : Type 1} → statement M
-skip-target-spec =
+pub skip_target_spec : {M : Type 1} → statement M
+skip_target_spec =
     tie.close
     (tie.spec
     invariant-loop

@@ -15,8 +15,8 @@ invariant-loop s at i₀ i = Passed is_token s at i
 abbrev decreases-loop : tie.decreases-loop
 decreases-loop s at i₀ i = length s - i
 
-pub skip-token-spec : {M : Type 1} → statement M
-skip-token-spec =
+pub skip_token_spec : {M : Type 1} → statement M
+skip_token_spec =
     tie.close
     (tie.spec
     invariant-loop

@@ -15,8 +15,8 @@ invariant-loop s at i₀ i = Passed is_value s at i × (i ≤ length s)
 abbrev decreases-loop : tie.decreases-loop
 decreases-loop s at i₀ i = length s - i
 
-pub skip-value-spec : {M : Type 1} → statement M
-skip-value-spec =
+pub skip_value_spec : {M : Type 1} → statement M
+skip_value_spec =
     tie.close
     (tie.spec
     invariant-loop

@@ -15,8 +15,8 @@ invariant-loop s at i₀ i = Passed is_visible s at i
 abbrev decreases-loop : tie.decreases-loop
 decreases-loop s at i₀ i = length s - i
 
-pub skip-visible-spec : {M : Type 1} → statement M
-skip-visible-spec =
+pub skip_visible_spec : {M : Type 1} → statement M
+skip_visible_spec =
     tie.close
     (tie.spec
     invariant-loop

@@ -5,8 +5,8 @@ use Rattle.spaces.specs.Space.{spaces}
 use Rattle.spaces.proofs.behind_code.Statement.{statement}
 use Rattle.spaces.proofs.behind_code.Tie as tie
 
-pub behind-code-spec : {M : Type 1} → statement M
-behind-code-spec =
+pub behind_code_spec : {M : Type 1} → statement M
+behind_code_spec =
     tie.close
     (tie.spec
     (λ c. search (rules, spaces))

@@ -5,8 +5,8 @@ use Rattle.spaces.specs.Space.{spaces}
 use Rattle.spaces.proofs.space.Statement.{statement}
 use Rattle.spaces.proofs.space.Tie as tie
 
-pub space-spec : {M : Type 1} → statement M
-space-spec =
+pub space_spec : {M : Type 1} → statement M
+space_spec =
     tie.close
     (tie.spec
     (λ c. search (rules, spaces))

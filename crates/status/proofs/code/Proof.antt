@@ -5,8 +5,8 @@ use Rattle.status.specs.Code.{codes}
 use Rattle.status.proofs.code.Statement.{statement}
 use Rattle.status.proofs.code.Tie as tie
 
-pub code-spec : {M : Type 1} → statement M
-code-spec =
+pub code_spec : {M : Type 1} → statement M
+code_spec =
     tie.close
     (tie.spec
     (λ c. search (rules, codes))

@@ -5,8 +5,8 @@ use Rattle.status.specs.Reason.{part_size, reasons}
 use Rattle.status.proofs.reason.Statement.{statement}
 use Rattle.status.proofs.reason.Tie as tie
 
-pub reason-spec : {M : Type 1} → statement M
-reason-spec =
+pub reason_spec : {M : Type 1} → statement M
+reason_spec =
     tie.close
     (tie.spec
     (λ c κs. search rules)

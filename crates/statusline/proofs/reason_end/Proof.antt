@@ -5,8 +5,8 @@ use Rattle.parts.specs.Ways.{ways}
 use Rattle.statusline.proofs.reason_end.Statement.{statement}
 use Rattle.statusline.proofs.reason_end.Tie as tie
 
-pub reason-end-spec : {M : Type 1} → statement M
-reason-end-spec =
+pub reason_end_spec : {M : Type 1} → statement M
+reason_end_spec =
     tie.close
     (tie.spec
     (λ c κs. search rules)

@@ -5,8 +5,8 @@ use Rattle.parts.specs.Ways.{ways}
 use Rattle.statusline.proofs.reason_line.Statement.{statement}
 use Rattle.statusline.proofs.reason_line.Tie as tie
 
-pub reason-line-spec : {M : Type 1} → statement M
-reason-line-spec =
+pub reason_line_spec : {M : Type 1} → statement M
+reason_line_spec =
     tie.close
     (tie.spec
     (λ c κs. search rules)

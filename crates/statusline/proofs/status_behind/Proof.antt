@@ -5,8 +5,8 @@ use Rattle.parts.specs.Ways.{ways}
 use Rattle.statusline.proofs.status_behind.Statement.{statement}
 use Rattle.statusline.proofs.status_behind.Tie as tie
 
-pub status-behind-spec : {M : Type 1} → statement M
-status-behind-spec =
+pub status_behind_spec : {M : Type 1} → statement M
+status_behind_spec =
     tie.close
     (tie.spec
     (λ c κs. search rules)

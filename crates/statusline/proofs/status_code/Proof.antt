@@ -6,8 +6,8 @@ use Rattle.statusline.specs.StatusLine.{gapped}
 use Rattle.statusline.proofs.status_code.Statement.{statement}
 use Rattle.statusline.proofs.status_code.Tie as tie
 
-pub status-code-spec : {M : Type 1} → statement M
-status-code-spec =
+pub status_code_spec : {M : Type 1} → statement M
+status_code_spec =
     tie.close
     (tie.spec
     (λ c κs. search rules)

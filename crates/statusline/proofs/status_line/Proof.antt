@@ -6,8 +6,8 @@ use Rattle.statusline.specs.StatusLine.{status_line_whole}
 use Rattle.statusline.proofs.status_line.Statement.{statement}
 use Rattle.statusline.proofs.status_line.Tie as tie
 
-pub status-line-spec : {M : Type 1} → statement M
-status-line-spec =
+pub status_line_spec : {M : Type 1} → statement M
+status_line_spec =
     tie.close
     (tie.spec
     (λ c κs. search rules)

@@ -6,8 +6,8 @@ use Rattle.statusline.specs.StatusLine.{gapped}
 use Rattle.statusline.proofs.status_reason.Statement.{statement}
 use Rattle.statusline.proofs.status_reason.Tie as tie
 
-pub status-reason-spec : {M : Type 1} → statement M
-status-reason-spec =
+pub status_reason_spec : {M : Type 1} → statement M
+status_reason_spec =
     tie.close
     (tie.spec
     (λ c κs. search rules)

@@ -5,8 +5,8 @@ use Rattle.parts.specs.Ways.{ways}
 use Rattle.statusline.proofs.status_space.Statement.{statement}
 use Rattle.statusline.proofs.status_space.Tie as tie
 
-pub status-space-spec : {M : Type 1} → statement M
-status-space-spec =
+pub status_space_spec : {M : Type 1} → statement M
+status_space_spec =
     tie.close
     (tie.spec
     (λ c κs. search rules)

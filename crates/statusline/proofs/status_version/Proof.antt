@@ -5,8 +5,8 @@ use Rattle.parts.specs.Ways.{ways}
 use Rattle.statusline.proofs.status_version.Statement.{statement}
 use Rattle.statusline.proofs.status_version.Tie as tie
 
-pub status-version-spec : {M : Type 1} → statement M
-status-version-spec =
+pub status_version_spec : {M : Type 1} → statement M
+status_version_spec =
     tie.close
     (tie.spec
     (λ c κs. search rules)

@@ -13,8 +13,8 @@ invariant-loop s awaited₀ i₀ awaited i = Come s awaited i
 abbrev decreases-loop : tie.decreases-loop
 decreases-loop s awaited₀ i₀ awaited i = length s - i
 
-pub is-utf8-spec : {M : Type 1} → statement M
-is-utf8-spec =
+pub is_utf8_spec : {M : Type 1} → statement M
+is_utf8_spec =
     tie.close
     (tie.spec
     invariant-loop

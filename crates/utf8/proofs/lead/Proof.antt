@@ -41,8 +41,8 @@ returns-10 : tie.Need-returns-10
 unfolding within
 returns-10 c = search (rules, rows)
 
-pub lead-spec : {M : Type 1} → statement M
-lead-spec =
+pub lead_spec : {M : Type 1} → statement M
+lead_spec =
     tie.close
     (tie.spec
     (λ c κs. search rules)

@@ -11,8 +11,8 @@ invariant-loop s from end i₀ i = Cut s from end i
 abbrev decreases-loop : tie.decreases-loop
 decreases-loop s from end i₀ i = i
 
-pub trim-spec : {M : Type 1} → statement M
-trim-spec =
+pub trim_spec : {M : Type 1} → statement M
+trim_spec =
     tie.close
     (tie.spec
     invariant-loop

@@ -12,8 +12,8 @@ invariant-loop s at i₀ k₀ i k = Matched s at i k
 abbrev decreases-loop : tie.decreases-loop
 decreases-loop s at i₀ k₀ i k = 7 - k
 
-pub version-spec : {M : Type 1} → statement M
-version-spec =
+pub version_spec : {M : Type 1} → statement M
+version_spec =
     tie.close
     (tie.spec
     invariant-loop

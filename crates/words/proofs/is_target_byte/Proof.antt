@@ -5,5 +5,5 @@ use Rattle.words.specs.Target.{target_bytes}
 use Rattle.words.proofs.is_target_byte.Statement.{statement}
 use Rattle.words.proofs.is_target_byte.Tie as tie
 
-pub is-target-byte-spec : {M : Type 1} → statement M
-is-target-byte-spec = tie.close (tie.spec (λ c κs. search rules) (λ c κs. search rules) (λ c. search (rules, target_bytes)) (λ c. search (rules, target_bytes)))
+pub is_target_byte_spec : {M : Type 1} → statement M
+is_target_byte_spec = tie.close (tie.spec (λ c κs. search rules) (λ c κs. search rules) (λ c. search (rules, target_bytes)) (λ c. search (rules, target_bytes)))

@@ -5,8 +5,8 @@ use Rattle.words.specs.Target.{targets}
 use Rattle.words.proofs.target.Statement.{statement}
 use Rattle.words.proofs.target.Tie as tie
 
-pub target-spec : {M : Type 1} → statement M
-target-spec =
+pub target_spec : {M : Type 1} → statement M
+target_spec =
     tie.close
     (tie.spec
     (λ c. search (rules, targets))

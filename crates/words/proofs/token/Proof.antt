@@ -5,8 +5,8 @@ use Rattle.words.specs.Word.{words}
 use Rattle.words.proofs.token.Statement.{statement}
 use Rattle.words.proofs.token.Tie as tie
 
-pub token-spec : {M : Type 1} → statement M
-token-spec =
+pub token_spec : {M : Type 1} → statement M
+token_spec =
     tie.close
     (tie.spec
     (λ c. search (rules, words))

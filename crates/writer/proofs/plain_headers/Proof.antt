@@ -18,8 +18,8 @@ returns-2 c =
     let k : length start.args.s.now * 2 < greatest = omega (arith, start.well-formed) in
     search (rules, not-false, no_number, h, k)
 
-pub plain-headers-spec : {M : Type 1} → statement M
-plain-headers-spec =
+pub plain_headers_spec : {M : Type 1} → statement M
+plain_headers_spec =
     tie.close
     (tie.spec
     (λ c κs. search rules)

@@ -18,8 +18,8 @@ returns-2 c =
     let k : length start.args.s.now * 2 < greatest = omega (arith, start.well-formed) in
     search (rules, not-false, no_number, h, k)
 
-pub plain-request-spec : {M : Type 1} → statement M
-plain-request-spec =
+pub plain_request_spec : {M : Type 1} → statement M
+plain_request_spec =
     tie.close
     (tie.spec
     (λ c κs. search rules)

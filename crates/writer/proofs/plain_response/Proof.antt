@@ -18,8 +18,8 @@ returns-2 c =
     let k : length start.args.s.now * 2 < greatest = omega (arith, start.well-formed) in
     search (rules, not-false, no_number, h, k)
 
-pub plain-response-spec : {M : Type 1} → statement M
-plain-response-spec =
+pub plain_response_spec : {M : Type 1} → statement M
+plain_response_spec =
     tie.close
     (tie.spec
     (λ c κs. search rules)
