@@ -29,10 +29,10 @@ data Onto : ℕ → List ℕ → ℕ → Type 0 where
   digit : {v b n : ℕ} {d : List ℕ} → HEXDIG b → Onto (v * 16 + worth b) d n → Onto v (b ∷ d) n
 
 all_digits : {w d : List ℕ} {v n : ℕ} → IsHexadecimal w v → Onto v d n → IsHexadecimal (w ++ d) n
-all_digits {w} {n = n} h last = subst (λ y. IsHexadecimal y n) (sym (append-nil w)) h
-all_digits {w} {v = v} {n = n} h (digit {b = b} {d = d} x k) =
+all_digits {w = w} {n = n} h last = subst (λ y. IsHexadecimal y n) (sym (append-nil w)) h
+all_digits {w = w} {v = v} {n = n} h (digit {b = b} {d = d} x k) =
     subst (λ y. IsHexadecimal y n) (append_assoc w (b ∷ []) d)
-    (all_digits (subst (λ y. IsHexadecimal (w ++ (b ∷ [])) (v * 16 + y)) (worth_is x) (grammar.IsHexadecimal.more h x)) k)
+    (all_digits {w = w ++ (b ∷ [])} (subst (λ y. IsHexadecimal (w ++ (b ∷ [])) (v * 16 + y)) (worth_is x) (grammar.IsHexadecimal.more h x)) k)
 
 -- what stands in a run from each state on
 record Ended (v : ℕ) (w : List ℕ) (p : ℕ) (xs : List ℕ) (n q : ℕ) : Type 0 where

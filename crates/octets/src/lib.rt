@@ -1,4 +1,6 @@
 // The classes of bytes that a head is read by, each as a test.
+#![tactic(auto)]
+
 ghost use Rattle.std.specs.Prelude.{◌≡◌};
 ghost use Rattle.octets.specs.Class.{is_ascii, is_blank, is_digit, is_hex_digit, is_target, is_token, is_value, is_visible};
 
