@@ -1,4 +1,6 @@
 // The block of header lines up to the empty one, over slots that the caller lends.
+#![tactic(auto)]
+
 ghost use Rattle.std.specs.Prelude.{◌≡◌, [], ◌∷◌, ◌++◌, ◌+◌, ◌/◌, ◌≤◌, length, take, drop};
 ghost use Rattle.rules.specs.Settings.{line_rules};
 ghost use Rattle.blocks.specs.Block.{block as block_at, Told};

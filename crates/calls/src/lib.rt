@@ -1,6 +1,8 @@
 // The public calls: a request, a response, a block of headers alone and a chunk size line. They demand nothing of the caller, and
 // each contract says what the answer is: what the reader answers, what that means in the grammar's words, by the rules that the settings
 // choose, and what is true of an error's position.
+#![tactic(auto)]
+
 ghost use Rattle.std.specs.Prelude.{◌≡◌, [], ◌/◌, length};
 ghost use Rattle.rules.specs.Rules.{default};
 ghost use Rattle.rules.specs.Settings.{request_rules, response_rules};

@@ -1,4 +1,6 @@
 // The line that says how long a chunk of a body is.
+#![tactic(auto)]
+
 ghost use Rattle.std.specs.Prelude.{◌≡◌, ◌≤◌, ◌<◌, length, true};
 ghost use Rattle.reader.specs.Skip.{Skipped};
 ghost use Rattle.octets.specs.Class.{is_hex_digit};

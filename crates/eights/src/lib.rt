@@ -1,4 +1,6 @@
 // How many of the next eight bytes are surely of a class: none, where fewer than eight are left; for values there must be eight.
+#![tactic(auto)]
+
 ghost use Rattle.std.specs.Prelude.{◌+◌, ◌≤◌, ◌<◌, ◌≡◌, length, get_or};
 ghost use Rattle.octets.specs.Class.{is_ascii, is_target, is_token, is_value, is_visible};
 ghost use Rattle.flags.specs.Test.{word};

@@ -1,4 +1,6 @@
 // One line of a header block: a header, whose value may go on over several, one that is passed over, or the empty line that ends it.
+#![tactic(auto)]
+
 ghost use Rattle.std.specs.Prelude.{◌≡◌};
 ghost use Rattle.reader.specs.Answer.{and};
 ghost use Rattle.reader.specs.Chain.{ended};

@@ -1,4 +1,6 @@
 // Eight bytes as one number, the first lowest: how many of them, from the first on, are surely of a class.
+#![tactic(auto)]
+
 ghost use Rattle.std.specs.Prelude.{◌≡◌};
 ghost use Rattle.octets.specs.Class.{is_ascii, is_target, is_token, is_value, is_visible};
 ghost use Rattle.flags.specs.Sure.{flags, clear as clear_of, Sure};

@@ -1,4 +1,6 @@
 // A header's value to the end of its line, or, where the lines behind it may go on with it, to the end of the last that does.
+#![tactic(auto)]
+
 ghost use Rattle.std.specs.Prelude.{◌≡◌};
 ghost use Rattle.rules.specs.Rules.{default};
 ghost use Rattle.parts.specs.Answers.{found as found_of};

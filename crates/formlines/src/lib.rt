@@ -1,4 +1,6 @@
 // The lines of a plain form and their parts, each put behind the one before it.
+#![tactic(auto)]
+
 ghost use Rattle.std.specs.Prelude.{◌≡◌, ◌+◌, ◌≤◌, length};
 ghost use Rattle.plain.specs.Plain.{plain_version, plain_code, plain_field, plain_fields, plain_request_line, plain_status_line, plain_request, plain_response};
 ghost use Rattle.agreement.specs.Places.{held};

@@ -1,4 +1,6 @@
 // The end of the spaces or blanks that a setting lets stand before a part.
+#![tactic(auto)]
+
 ghost use Rattle.reader.specs.Skip.{Skipped};
 ghost use Rattle.gaps.specs.Gap.{is_space, spaces_if, blanks_if};
 

@@ -1,4 +1,6 @@
 // The calls for programs in C: each answer as a number and eight more. The contract of each says that these are the call's answer.
+#![tactic(auto)]
+
 ghost use Rattle.headreader.specs.Exports.{RequestExport, ResponseExport, HeadersExport, SizeExport};
 
 use chunks::ChunkSize;

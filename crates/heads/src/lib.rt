@@ -1,4 +1,6 @@
 // A request, a response, and a block of headers alone, each equal to its reader. They demand nothing of the caller.
+#![tactic(auto)]
+
 ghost use Rattle.std.specs.Prelude.{[], ◌/◌, length};
 ghost use Rattle.rules.specs.Rules.{default};
 ghost use Rattle.rules.specs.Settings.{request_rules, response_rules};

@@ -1,4 +1,6 @@
 // The rest of a header's line that is passed over, from the byte on that is wrong in it.
+#![tactic(auto)]
+
 ghost use Rattle.std.specs.Prelude.{◌≡◌, ◌≤◌, length};
 ghost use Rattle.reader.specs.Skip.{Skipped};
 ghost use Rattle.parts.specs.Answers.{passed};

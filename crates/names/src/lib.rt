@@ -1,4 +1,6 @@
 // A header's name, up to the colon behind it.
+#![tactic(auto)]
+
 ghost use Rattle.std.specs.Prelude.{◌≡◌, true, false};
 ghost use Rattle.rules.specs.Settings.{changed};
 ghost use Rattle.parts.specs.Answers.{found};

@@ -1,4 +1,6 @@
 // The answers and the settings as numbers, for programs in C.
+#![tactic(auto)]
+
 ghost use Rattle.std.specs.Prelude.{◌≡◌, ◌≤◌};
 ghost use Rattle.startline.specs.Answers.{number_of};
 ghost use Rattle.numbers.specs.Numbers.{settings_of, error_number, kind_of, position_of, piece_of, piece_bit, number_bit, placed, request_numbers, response_numbers};

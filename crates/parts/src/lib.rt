@@ -1,4 +1,6 @@
 // What a head is made of: what can be wrong, pieces and answers, line ends and empty lines.
+#![tactic(auto)]
+
 ghost use Rattle.std.specs.Prelude.{◌≡◌};
 ghost use Rattle.rules.specs.Rules.{default};
 ghost use Rattle.parts.specs.Answers.{passed};

@@ -1,4 +1,6 @@
 // Whether what was read is complete and lies in the input, and of a response, whose values may go on over several lines, that none does.
+#![tactic(auto)]
+
 ghost use Rattle.std.specs.Prelude.{◌+◌, ◌≤◌, length, take, drop};
 ghost use Rattle.plain.specs.Plain.{one_line, OneLine};
 ghost use Rattle.agreement.specs.Known.{fields_in};

@@ -1,4 +1,6 @@
 // What was read of an input, in the same words for each kind.
+#![tactic(auto)]
+
 pub mod decided;
 
 use chunks::ChunkSize;

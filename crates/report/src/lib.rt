@@ -1,4 +1,6 @@
 // The report on an input: an answer, told to a person or to a script, and the rows of what was found.
+#![tactic(auto)]
+
 mod folded;
 mod rows;
 

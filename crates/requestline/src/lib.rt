@@ -1,4 +1,6 @@
 // The start of a request: empty lines, and the request line.
+#![tactic(auto)]
+
 ghost use Rattle.std.specs.Prelude.{◌≡◌};
 ghost use Rattle.rules.specs.Rules.{default};
 ghost use Rattle.rules.specs.Settings.{request_rules};

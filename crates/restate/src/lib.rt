@@ -1,4 +1,6 @@
 // The plain form of what stands at the start of an input.
+#![tactic(auto)]
+
 ghost use Rattle.rules.specs.Rules.{default};
 ghost use Rattle.rules.specs.Settings.{request_rules, response_rules};
 ghost use Rattle.grammar.specs.Message.{IsRequestHead, IsResponseHead};

@@ -1,4 +1,6 @@
 // What reading heads one behind another comes to.
+#![tactic(auto)]
+
 use parts::Fault;
 
 // Why the reading stopped: all of the input was read; there is no room for one more end; the input ends before the next head does; the

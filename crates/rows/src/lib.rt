@@ -1,4 +1,6 @@
 // Heads one behind another: each is read from the end of the one before it. They demand nothing of the caller.
+#![tactic(auto)]
+
 ghost use Rattle.std.specs.Prelude.{◌≡◌, ◌/◌, ◌≤◌, length, drop};
 ghost use Rattle.rules.specs.Settings.{request_rules, response_rules};
 ghost use Rattle.grammar.specs.Message.{IsRequestHead, IsResponseHead};

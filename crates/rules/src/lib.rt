@@ -1,4 +1,5 @@
 // Which readings are allowed beyond the RFCs, and which are refused: the settings that a caller may choose, and, in specs/, the rules.
+#![tactic(auto)]
 
 // What a caller asks for; httparse's default has all of them off.
 #[derive(Drop)]

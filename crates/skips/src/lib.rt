@@ -1,4 +1,6 @@
 // The end of a row of bytes of a class.
+#![tactic(auto)]
+
 ghost use Rattle.reader.specs.Skip.{Skipped};
 ghost use Rattle.octets.specs.Class.{is_ascii, is_blank, is_target, is_token, is_value, is_visible};
 

@@ -1,4 +1,6 @@
 // The spaces of a status line: behind its version, and behind its code.
+#![tactic(auto)]
+
 ghost use Rattle.std.specs.Prelude.{◌≡◌};
 ghost use Rattle.rules.specs.Rules.{default};
 ghost use Rattle.parts.specs.Answers.{passed};

@@ -1,4 +1,6 @@
 // What request lines and status lines share: a part of a line is known, or not yet.
+#![tactic(auto)]
+
 use parts::Piece;
 
 // A piece that is known, or not yet.

@@ -1,4 +1,6 @@
 // The code and the reason of a status line.
+#![tactic(auto)]
+
 ghost use Rattle.std.specs.Prelude.{◌≡◌, ◌+◌, ◌*◌, ◌<◌, ◌≤◌};
 ghost use Rattle.parts.specs.Answers.{found, number};
 ghost use Rattle.status.specs.Code.{code as code_at, onto as onto_of};

@@ -1,4 +1,6 @@
 // The start of a response: empty lines, and the status line.
+#![tactic(auto)]
+
 ghost use Rattle.std.specs.Prelude.{◌≡◌};
 ghost use Rattle.reader.specs.Chain.{ended};
 ghost use Rattle.parts.specs.declared.Error.TheVariants.{Status};

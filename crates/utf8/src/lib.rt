@@ -1,4 +1,6 @@
 // Whether bytes are well-formed UTF-8, as RFC 3629, section 4, has it.
+#![tactic(auto)]
+
 ghost use Rattle.std.specs.Prelude.{◌≡◌};
 ghost use Rattle.utf8.specs.Reader.{lead as lead_of, step as step_of, utf8};
 ghost use Rattle.utf8.specs.Values.{moved, state};

@@ -1,4 +1,6 @@
 // A header's value, without the blanks around it.
+#![tactic(auto)]
+
 ghost use Rattle.std.specs.Prelude.{◌≡◌, ◌≤◌, length};
 ghost use Rattle.parts.specs.Answers.{found as found_of};
 ghost use Rattle.values.specs.Trim.{Trimmed};

@@ -1,4 +1,6 @@
 // The version of a start line.
+#![tactic(auto)]
+
 ghost use Rattle.std.specs.Prelude.{◌≡◌};
 ghost use Rattle.parts.specs.Answers.{number};
 ghost use Rattle.versions.specs.Version.{version as version_at};

@@ -1,4 +1,6 @@
 // Words: a row of bytes of a class and the byte that ends it, as methods, header names and request targets are.
+#![tactic(auto)]
+
 ghost use Rattle.std.specs.Prelude.{◌≡◌, not};
 ghost use Rattle.reader.specs.Skip.{Skipped};
 ghost use Rattle.octets.specs.Class.{is_token};

@@ -1,4 +1,6 @@
 // The plain form of what was read, written into bytes that the caller lends. It demands nothing of the caller.
+#![tactic(auto)]
+
 ghost use Rattle.places.specs.Lies.{RequestLies, ResponseLies, BlockLies};
 ghost use Rattle.writer.specs.Promise.{request_form, response_form, block_form, PlainPromise};
 

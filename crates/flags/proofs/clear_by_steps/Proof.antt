@@ -6,10 +6,10 @@ use Rattle.flags.specs.Steps.{Counted, counts}
 use Rattle.flags.proofs.clear_by_steps.Statement.{statement}
 use Rattle.flags.proofs.clear_by_steps.Tie as tie
 
-abbrev invariant-loop : tie.invariant-loop
+abbrev invariant-loop : tie.invariant-loop-count
 invariant-loop flags rest₀ count₀ rest count = Counted flags rest count
 
-abbrev decreases-loop : tie.decreases-loop
+abbrev decreases-loop : tie.decreases-loop-count
 decreases-loop flags rest₀ count₀ rest count = 8 - count
 
 pub clear_by_steps_spec : {M : Type 1} → statement M

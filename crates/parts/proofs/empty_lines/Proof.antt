@@ -7,10 +7,10 @@ use Rattle.parts.specs.EmptyLines.{Empty, empties}
 use Rattle.parts.proofs.empty_lines.Statement.{statement}
 use Rattle.parts.proofs.empty_lines.Tie as tie
 
-abbrev invariant-loop : tie.invariant-loop
+abbrev invariant-loop : tie.invariant-loop-i
 invariant-loop s at i₀ i = Empty s at i
 
-abbrev decreases-loop : tie.decreases-loop
+abbrev decreases-loop : tie.decreases-loop-i
 decreases-loop s at i₀ i = length s - i
 
 pub empty_lines_spec : {M : Type 1} → statement M

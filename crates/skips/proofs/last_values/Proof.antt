@@ -8,10 +8,10 @@ use Rattle.octets.specs.Class.{is_value}
 use Rattle.skips.proofs.last_values.Statement.{statement}
 use Rattle.skips.proofs.last_values.Tie as tie
 
-abbrev invariant-loop : tie.invariant-loop
+abbrev invariant-loop : tie.invariant-loop-i
 invariant-loop s at i₀ i = Passed is_value s at i
 
-abbrev decreases-loop : tie.decreases-loop
+abbrev decreases-loop : tie.decreases-loop-i
 decreases-loop s at i₀ i = length s - i
 
 pub last_values_spec : {M : Type 1} → statement M

@@ -8,10 +8,10 @@ use Rattle.octets.specs.Class.{is_blank}
 use Rattle.skips.proofs.skip_blank.Statement.{statement}
 use Rattle.skips.proofs.skip_blank.Tie as tie
 
-abbrev invariant-loop : tie.invariant-loop
+abbrev invariant-loop : tie.invariant-loop-i
 invariant-loop s at i₀ i = Passed is_blank s at i
 
-abbrev decreases-loop : tie.decreases-loop
+abbrev decreases-loop : tie.decreases-loop-i
 decreases-loop s at i₀ i = length s - i
 
 pub skip_blank_spec : {M : Type 1} → statement M

@@ -9,10 +9,10 @@ use Rattle.octets.specs.Class.{is_target}
 use Rattle.skips.proofs.skip_target.Statement.{statement}
 use Rattle.skips.proofs.skip_target.Tie as tie
 
-abbrev invariant-loop : tie.invariant-loop
+abbrev invariant-loop : tie.invariant-loop-i
 invariant-loop s at i₀ i = Passed is_target s at i
 
-abbrev decreases-loop : tie.decreases-loop
+abbrev decreases-loop : tie.decreases-loop-i
 decreases-loop s at i₀ i = length s - i
 
 pub skip_target_spec : {M : Type 1} → statement M

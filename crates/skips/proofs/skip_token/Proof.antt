@@ -9,10 +9,10 @@ use Rattle.octets.specs.Class.{is_token}
 use Rattle.skips.proofs.skip_token.Statement.{statement}
 use Rattle.skips.proofs.skip_token.Tie as tie
 
-abbrev invariant-loop : tie.invariant-loop
+abbrev invariant-loop : tie.invariant-loop-i
 invariant-loop s at i₀ i = Passed is_token s at i
 
-abbrev decreases-loop : tie.decreases-loop
+abbrev decreases-loop : tie.decreases-loop-i
 decreases-loop s at i₀ i = length s - i
 
 pub skip_token_spec : {M : Type 1} → statement M

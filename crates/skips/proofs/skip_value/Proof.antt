@@ -9,10 +9,10 @@ use Rattle.octets.specs.Class.{is_value}
 use Rattle.skips.proofs.skip_value.Statement.{statement}
 use Rattle.skips.proofs.skip_value.Tie as tie
 
-abbrev invariant-loop : tie.invariant-loop
+abbrev invariant-loop : tie.invariant-loop-i
 invariant-loop s at i₀ i = Passed is_value s at i × (i ≤ length s)
 
-abbrev decreases-loop : tie.decreases-loop
+abbrev decreases-loop : tie.decreases-loop-i
 decreases-loop s at i₀ i = length s - i
 
 pub skip_value_spec : {M : Type 1} → statement M
