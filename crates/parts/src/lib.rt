@@ -8,7 +8,7 @@ ghost use Rattle.parts.specs.LineEnd.{line_end};
 ghost use Rattle.parts.specs.EmptyLines.{empty_lines};
 
 // What can be wrong with a head.
-#[derive(Drop)]
+#[derive(Clone, Copy)]
 pub enum Error {
     HeaderName,
     HeaderValue,
@@ -20,21 +20,21 @@ pub enum Error {
 }
 
 // An error, and the position of the byte that decided it; for TooManyHeaders, of the first byte of the header that had no slot.
-#[derive(Drop)]
+#[derive(Clone, Copy)]
 pub struct Fault {
     pub error: Error,
     pub position: usize,
 }
 
 // A part of the input.
-#[derive(Drop)]
+#[derive(Clone, Copy)]
 pub struct Piece {
     pub offset: usize,
     pub length: usize,
 }
 
 // What reading a part that has no value comes to: the position behind it; the input ends within it; a byte of it is wrong.
-#[derive(Drop)]
+#[derive(Clone, Copy)]
 pub enum Passed {
     At(usize),
     More,
@@ -42,7 +42,7 @@ pub enum Passed {
 }
 
 // The same of a part that is a piece.
-#[derive(Drop)]
+#[derive(Clone, Copy)]
 pub enum Found {
     At(Piece, usize),
     More,
@@ -50,7 +50,7 @@ pub enum Found {
 }
 
 // The same of a part that is a number.
-#[derive(Drop)]
+#[derive(Clone, Copy)]
 pub enum Number {
     At(usize, usize),
     More,

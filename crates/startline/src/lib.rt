@@ -4,14 +4,14 @@
 use parts::Piece;
 
 // A piece that is known, or not yet.
-#[derive(Drop)]
+#[derive(Clone, Copy)]
 pub enum KnownPiece {
     Is(Piece),
     NotYet,
 }
 
 // A number that is known, or not yet.
-#[derive(Drop)]
+#[derive(Clone, Copy)]
 pub enum KnownNumber {
     Is(usize),
     NotYet,

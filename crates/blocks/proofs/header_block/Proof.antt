@@ -7,10 +7,10 @@ use Rattle.blocks.specs.Block.{Kept, kept_more, kept_ignored, blocks, lessens}
 use Rattle.blocks.proofs.header_block.Statement.{statement}
 use Rattle.blocks.proofs.header_block.Tie as tie
 
-abbrev invariant-loop : tie.invariant-loop
+abbrev invariant-loop : tie.invariant-loop-header
 invariant-loop s at slots₀ l n i₀ count₀ slots i count = Kept l n s slots₀ slots at i count
 
-abbrev decreases-loop : tie.decreases-loop
+abbrev decreases-loop : tie.decreases-loop-header
 decreases-loop s at slots₀ l n i₀ count₀ slots i count = length s - i
 
 pub header_block_spec : {M : Type 1} → statement M

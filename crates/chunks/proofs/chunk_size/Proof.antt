@@ -7,10 +7,10 @@ use Rattle.chunks.specs.Chunk.{Counted, counts}
 use Rattle.chunks.proofs.chunk_size.Statement.{statement}
 use Rattle.chunks.proofs.chunk_size.Tie as tie
 
-abbrev invariant-loop : tie.invariant-loop
+abbrev invariant-loop : tie.invariant-loop-i
 invariant-loop s i₀ size₀ i size = Counted s i size
 
-abbrev decreases-loop : tie.decreases-loop
+abbrev decreases-loop : tie.decreases-loop-i
 decreases-loop s i₀ size₀ i size = length s - i
 
 pub chunk_size_spec : {M : Type 1} → statement M

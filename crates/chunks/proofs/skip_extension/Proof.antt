@@ -8,10 +8,10 @@ use Rattle.chunks.specs.Chunk.{is_extension, extension_byte, extension_stop}
 use Rattle.chunks.proofs.skip_extension.Statement.{statement}
 use Rattle.chunks.proofs.skip_extension.Tie as tie
 
-abbrev invariant-loop : tie.invariant-loop
+abbrev invariant-loop : tie.invariant-loop-i
 invariant-loop s at i₀ i = Passed is_extension s at i
 
-abbrev decreases-loop : tie.decreases-loop
+abbrev decreases-loop : tie.decreases-loop-i
 decreases-loop s at i₀ i = length s - i
 
 pub skip_extension_spec : {M : Type 1} → statement M

@@ -7,10 +7,10 @@ use Rattle.folds.specs.Folded.{Kept, folds}
 use Rattle.folds.proofs.lines.Statement.{statement}
 use Rattle.folds.proofs.lines.Tie as tie
 
-abbrev invariant-loop : tie.invariant-loop
+abbrev invariant-loop : tie.invariant-loop-piece
 invariant-loop s at multiline i₀ value₀ i value = Kept multiline s at i value
 
-abbrev decreases-loop : tie.decreases-loop
+abbrev decreases-loop : tie.decreases-loop-piece
 decreases-loop s at multiline i₀ value₀ i value = length s - i
 
 pub lines_spec : {M : Type 1} → statement M

@@ -8,10 +8,10 @@ use Rattle.gaps.specs.Gap.{is_space, gaps}
 use Rattle.gaps.proofs.skip_space.Statement.{statement}
 use Rattle.gaps.proofs.skip_space.Tie as tie
 
-abbrev invariant-loop : tie.invariant-loop
+abbrev invariant-loop : tie.invariant-loop-i
 invariant-loop s at i₀ i = Passed is_space s at i
 
-abbrev decreases-loop : tie.decreases-loop
+abbrev decreases-loop : tie.decreases-loop-i
 decreases-loop s at i₀ i = length s - i
 
 pub skip_space_spec : {M : Type 1} → statement M

@@ -8,10 +8,10 @@ use Rattle.ignored.specs.Rest.{is_ignorable, skips}
 use Rattle.ignored.proofs.skip_ignorable.Statement.{statement}
 use Rattle.ignored.proofs.skip_ignorable.Tie as tie
 
-abbrev invariant-loop : tie.invariant-loop
+abbrev invariant-loop : tie.invariant-loop-i
 invariant-loop s at i₀ i = Passed is_ignorable s at i
 
-abbrev decreases-loop : tie.decreases-loop
+abbrev decreases-loop : tie.decreases-loop-i
 decreases-loop s at i₀ i = length s - i
 
 pub skip_ignorable_spec : {M : Type 1} → statement M

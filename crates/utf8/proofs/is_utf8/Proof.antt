@@ -7,10 +7,10 @@ use Rattle.utf8.proofs.Come.{Come, comes}
 use Rattle.utf8.proofs.is_utf8.Statement.{statement}
 use Rattle.utf8.proofs.is_utf8.Tie as tie
 
-abbrev invariant-loop : tie.invariant-loop
+abbrev invariant-loop : tie.invariant-loop-i
 invariant-loop s awaited₀ i₀ awaited i = Come s awaited i
 
-abbrev decreases-loop : tie.decreases-loop
+abbrev decreases-loop : tie.decreases-loop-i
 decreases-loop s awaited₀ i₀ awaited i = length s - i
 
 pub is_utf8_spec : {M : Type 1} → statement M

@@ -6,38 +6,38 @@ use Rattle.utf8.specs.Rows.{rows}
 use Rattle.utf8.proofs.lead.Statement.{statement}
 use Rattle.utf8.proofs.lead.Tie as tie
 
-returns : tie.Need-returns
+returns : tie.Need-returns-then-b-lt128
 returns c = rw c.keep.ensures (search (rules, rows))
 
-returns-2 : tie.Need-returns-2
+returns-2 : tie.Need-returns-then-b
 unfolding within
-returns-2 c = rw c.keep2.ensures (search (rules, rows))
+returns-2 c = rw c.keep-then-b.ensures (search (rules, rows))
 
-returns-3 : tie.Need-returns-3
-returns-3 c = rw c.keep3.ensures (search (rules, rows))
+returns-3 : tie.Need-returns-then-b-eq224
+returns-3 c = rw c.keep-then-b-eq224.ensures (search (rules, rows))
 
-returns-4 : tie.Need-returns-4
+returns-4 : tie.Need-returns-then-b-2
 unfolding within
-returns-4 c = rw c.keep4.ensures (search (rules, rows))
+returns-4 c = rw c.keep-then-b-2.ensures (search (rules, rows))
 
-returns-5 : tie.Need-returns-5
-returns-5 c = rw c.keep5.ensures (search (rules, rows))
+returns-5 : tie.Need-returns-then-b-eq237
+returns-5 c = rw c.keep-then-b-eq237.ensures (search (rules, rows))
 
-returns-6 : tie.Need-returns-6
+returns-6 : tie.Need-returns-then-b-3
 unfolding within
-returns-6 c = rw c.keep6.ensures (search (rules, rows))
+returns-6 c = rw c.keep-then-b-3.ensures (search (rules, rows))
 
-returns-7 : tie.Need-returns-7
-returns-7 c = rw c.keep7.ensures (search (rules, rows))
+returns-7 : tie.Need-returns-then-b-eq240
+returns-7 c = rw c.keep-then-b-eq240.ensures (search (rules, rows))
 
-returns-8 : tie.Need-returns-8
+returns-8 : tie.Need-returns-then-b-4
 unfolding within
-returns-8 c = rw c.keep8.ensures (search (rules, rows))
+returns-8 c = rw c.keep-then-b-4.ensures (search (rules, rows))
 
-returns-9 : tie.Need-returns-9
-returns-9 c = rw c.keep9.ensures (search (rules, rows))
+returns-9 : tie.Need-returns-then-b-eq244
+returns-9 c = rw c.keep-then-b-eq244.ensures (search (rules, rows))
 
-returns-10 : tie.Need-returns-10
+returns-10 : tie.Need-returns
 unfolding within
 returns-10 c = search (rules, rows)
 

@@ -7,14 +7,14 @@ use Rattle.utf8.proofs.Come.{step_first, steps}
 use Rattle.utf8.proofs.step.Statement.{statement}
 use Rattle.utf8.proofs.step.Tie as tie
 
-returns : tie.Need-returns
-returns c = c.lead.ensures ∙ step_first _ _ _ _ c.before.if1.true
+returns : tie.Need-returns-then-a-eq0
+returns c = c.lead.ensures ∙ step_first _ _ _ _ c.before.if-a-eq0.true
 
-returns-2 : tie.Need-returns-2
+returns-2 : tie.Need-returns-then-a-b
 unfolding within
 returns-2 c = rw c.keep.ensures (search (rules, steps))
 
-returns-3 : tie.Need-returns-3
+returns-3 : tie.Need-returns
 unfolding within
 returns-3 c = search (rules, steps)
 

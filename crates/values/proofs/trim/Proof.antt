@@ -5,10 +5,10 @@ use Rattle.values.specs.Trim.{Cut, trims}
 use Rattle.values.proofs.trim.Statement.{statement}
 use Rattle.values.proofs.trim.Tie as tie
 
-abbrev invariant-loop : tie.invariant-loop
+abbrev invariant-loop : tie.invariant-loop-i
 invariant-loop s from end i₀ i = Cut s from end i
 
-abbrev decreases-loop : tie.decreases-loop
+abbrev decreases-loop : tie.decreases-loop-i
 decreases-loop s from end i₀ i = i
 
 pub trim_spec : {M : Type 1} → statement M

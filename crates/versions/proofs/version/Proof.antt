@@ -6,10 +6,10 @@ use Rattle.versions.specs.Version.{Matched, versions}
 use Rattle.versions.proofs.version.Statement.{statement}
 use Rattle.versions.proofs.version.Tie as tie
 
-abbrev invariant-loop : tie.invariant-loop
+abbrev invariant-loop : tie.invariant-loop-k
 invariant-loop s at i₀ k₀ i k = Matched s at i k
 
-abbrev decreases-loop : tie.decreases-loop
+abbrev decreases-loop : tie.decreases-loop-k
 decreases-loop s at i₀ k₀ i k = 7 - k
 
 pub version_spec : {M : Type 1} → statement M
