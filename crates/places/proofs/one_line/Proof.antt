@@ -6,10 +6,10 @@ use Rattle.places.specs.Lines.{LinesSoFar, lines}
 use Rattle.places.proofs.one_line.Statement.{statement}
 use Rattle.places.proofs.one_line.Tie as tie
 
-abbrev invariant-loop : tie.invariant-loop
+abbrev invariant-loop : tie.invariant-loop-k
 invariant-loop s slots count k₀ k = LinesSoFar s slots count k
 
-abbrev decreases-loop : tie.decreases-loop
+abbrev decreases-loop : tie.decreases-loop-k
 decreases-loop s slots count k₀ k = count - k
 
 pub one_line_spec : {M : Type 1} → statement M

@@ -6,10 +6,10 @@ use Rattle.places.specs.Checks.{Checked, checks}
 use Rattle.places.proofs.slots.Statement.{statement}
 use Rattle.places.proofs.slots.Tie as tie
 
-abbrev invariant-loop : tie.invariant-loop
+abbrev invariant-loop : tie.invariant-loop-k
 invariant-loop s slots count k₀ k = Checked s slots count k
 
-abbrev decreases-loop : tie.decreases-loop
+abbrev decreases-loop : tie.decreases-loop-k
 decreases-loop s slots count k₀ k = count - k
 
 pub slots_spec : {M : Type 1} → statement M

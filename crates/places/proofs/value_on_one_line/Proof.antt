@@ -6,10 +6,10 @@ use Rattle.places.specs.Lines.{LineSoFar, lines}
 use Rattle.places.proofs.value_on_one_line.Statement.{statement}
 use Rattle.places.proofs.value_on_one_line.Tie as tie
 
-abbrev invariant-loop : tie.invariant-loop
+abbrev invariant-loop : tie.invariant-loop-k
 invariant-loop s offset size k₀ k = LineSoFar s offset size k
 
-abbrev decreases-loop : tie.decreases-loop
+abbrev decreases-loop : tie.decreases-loop-k
 decreases-loop s offset size k₀ k = size - k
 
 pub value_on_one_line_spec : {M : Type 1} → statement M

@@ -10,24 +10,24 @@ use Rattle.rowread.specs.Reading.{Reading, reading_within, reading_wrong_within,
 use Rattle.rows.proofs.responses.Statement.{statement}
 use Rattle.rows.proofs.responses.Tie as tie
 
-abbrev invariant-loop : tie.invariant-loop
+abbrev invariant-loop : tie.invariant-loop-at
 invariant-loop s slots₀ ends₀ settings at₀ count₀ slots ends at count = Reading (IsResponseHead (response_rules settings)) (response (response_rules settings)) (length slots₀ / 4) s slots₀ ends₀ slots ends at count
 
-abbrev decreases-loop : tie.decreases-loop
+abbrev decreases-loop : tie.decreases-loop-at
 decreases-loop s slots₀ ends₀ settings at₀ count₀ slots ends at count = length s - at
 
 -- the head that was read ends within the input
-add_at : tie.Need-overflow-add-at invariant-loop decreases-loop
+add_at : tie.Need-overflow_add-at invariant-loop decreases-loop
 add_at c =
     let n = c.before.before.before.before.before in
-    let h = reading_within n.before.before.before.before.loop.invariant n.next_response.ensures.0 c.before.end.given.1 in
+    let h = reading_within n.before.before.loop-at.invariant n.next_response-end.ensures.0 c.before.end-1.given.1 in
     search (rules, h)
 
 -- so does a byte that is wrong
-add_position : tie.Need-overflow-add-position invariant-loop decreases-loop
+add_position : tie.Need-overflow_add-position invariant-loop decreases-loop
 add_position c =
     let n = c.before.before.before.before.before.before in
-    let h = reading_wrong_within n.before.before.before.before.loop.invariant n.next_response.ensures.0 c.before.before.end2.given.1 in
+    let h = reading_wrong_within n.before.before.loop-at.invariant n.next_response-end.ensures.0 c.before.before.end-in-Bad-1.given.1 in
     search (rules, h)
 
 pub responses_spec : {M : Type 1} → statement M
