@@ -19,15 +19,13 @@ decreases-loop s slots₀ ends₀ settings at₀ count₀ slots ends at count = 
 -- the head that was read ends within the input
 add_at : tie.Need-overflow_add-at invariant-loop decreases-loop
 add_at c =
-    let n = c.before.before.before.before.before in
-    let h = reading_within n.before.before.loop-at.invariant n.next_request-end.ensures.0 c.before.end-1.given.1 in
+    let h = reading_within c.loop-at.invariant c.next_request-end.ensures.0 c.in-At.is in
     search (rules, h)
 
 -- so does a byte that is wrong
 add_position : tie.Need-overflow_add-position invariant-loop decreases-loop
 add_position c =
-    let n = c.before.before.before.before.before.before in
-    let h = reading_wrong_within n.before.before.loop-at.invariant n.next_request-end.ensures.0 c.before.before.end-in-Bad-1.given.1 in
+    let h = reading_wrong_within c.loop-at.invariant c.next_request-end.ensures.0 c.in-Bad.is in
     search (rules, h)
 
 pub requests_spec : {M : Type 1} → statement M
