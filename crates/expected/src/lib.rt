@@ -1,4 +1,6 @@
 // What was expected where an error lies, a sentence each.
+#![tactic(auto)]
+
 use page::text::{Page, put};
 
 #[derive(Drop)]
