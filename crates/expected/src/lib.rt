@@ -3,7 +3,7 @@
 
 use page::text::{Page, put};
 
-#[derive(Drop)]
+#[derive(Clone, Copy)]
 pub enum Expected {
     // behind a CR
     LineFeed,
@@ -13,7 +13,7 @@ pub enum Expected {
     Size(InSize),
 }
 
-#[derive(Drop)]
+#[derive(Clone, Copy)]
 pub enum InRequestLine {
     MethodStart,
     Method,
@@ -31,7 +31,7 @@ pub enum InRequestLine {
     LineEnd,
 }
 
-#[derive(Drop)]
+#[derive(Clone, Copy)]
 pub enum InStatusLine {
     Version,
     Space,
@@ -42,7 +42,7 @@ pub enum InStatusLine {
     Reason,
 }
 
-#[derive(Drop)]
+#[derive(Clone, Copy)]
 pub enum InHeader {
     Start,
     // where blanks may stand before the first name
@@ -61,7 +61,7 @@ pub enum InHeader {
     NoMore,
 }
 
-#[derive(Drop)]
+#[derive(Clone, Copy)]
 pub enum InSize {
     Start,
     Digit,

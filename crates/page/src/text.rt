@@ -64,7 +64,7 @@ pub fn fill(page: &mut Page, at: usize, form: &[u8], first: usize, second: usize
 }
 
 // A byte as it is shown, and how many columns that takes.
-#[derive(Drop)]
+#[derive(Clone, Copy)]
 pub struct Escape {
     pub text: [u8; 4],
     pub columns: usize,

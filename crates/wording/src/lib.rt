@@ -6,7 +6,7 @@ pub mod advice;
 use page::text::{Page, put};
 use parts::Error;
 
-#[derive(Drop)]
+#[derive(Clone, Copy)]
 pub enum Kind {
     Request,
     Response,
