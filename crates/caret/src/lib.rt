@@ -1,4 +1,6 @@
 // A line of the input, with a caret under one of its bytes.
+#![tactic(auto)]
+
 ghost use Rattle.std.specs.Prelude.{◌≤◌, length};
 
 use page::place::{Line, line_length, part};

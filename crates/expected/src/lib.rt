@@ -1,7 +1,9 @@
 // What was expected where an error lies, a sentence each.
+#![tactic(auto)]
+
 use page::text::{Page, put};
 
-#[derive(Drop)]
+#[derive(Clone, Copy)]
 pub enum Expected {
     // behind a CR
     LineFeed,
@@ -11,7 +13,7 @@ pub enum Expected {
     Size(InSize),
 }
 
-#[derive(Drop)]
+#[derive(Clone, Copy)]
 pub enum InRequestLine {
     MethodStart,
     Method,
@@ -29,7 +31,7 @@ pub enum InRequestLine {
     LineEnd,
 }
 
-#[derive(Drop)]
+#[derive(Clone, Copy)]
 pub enum InStatusLine {
     Version,
     Space,
@@ -40,7 +42,7 @@ pub enum InStatusLine {
     Reason,
 }
 
-#[derive(Drop)]
+#[derive(Clone, Copy)]
 pub enum InHeader {
     Start,
     // where blanks may stand before the first name
@@ -59,7 +61,7 @@ pub enum InHeader {
     NoMore,
 }
 
-#[derive(Drop)]
+#[derive(Clone, Copy)]
 pub enum InSize {
     Start,
     Digit,

@@ -2,7 +2,7 @@
 ghost use Rattle.std.specs.Prelude.{◌≤◌};
 
 use crate::settings;
-use libc::STDERR_FILENO;
+use crate::words::{argument, count, room, same, tell};
 use rules::Settings;
 use wording::Kind;
 
@@ -28,82 +28,82 @@ enum Word {
     Other,
 }
 
-pub fn asked() -> Call {
-    let taken = settings::first();
+pub fn asked(rt: &HostRuntime) -> Call {
+    let taken = settings::first(rt);
     let settings = taken.settings;
-    asked_behind(taken.next, settings)
+    asked_behind(rt, taken.next, settings)
 }
 
 // The arguments from the first that is no setting on.
-fn asked_behind(at: usize, settings: Settings) -> Call
+fn asked_behind(rt: &HostRuntime, at: usize, settings: Settings) -> Call
     requires { at ≤ 8 }
 {
-    if is(at, b"--plain") {
-        return asked_plain(at + 1, settings);
+    if is(rt, at, b"--plain") {
+        return asked_plain(rt, at + 1, settings);
     }
-    let word = kind_at(at);
+    let word = kind_at(rt, at);
     match word {
         Word::Is(kind) => {
-            if is(at + 1, b"--raw") {
-                with_file(kind, Mode::Script, settings, at + 2)
+            if is(rt, at + 1, b"--raw") {
+                with_file(rt, kind, Mode::Script, settings, at + 2)
             } else {
-                with_file(kind, Mode::Person, settings, at + 1)
+                with_file(rt, kind, Mode::Person, settings, at + 1)
             }
         }
         Word::Other => refused_word(
+            rt,
             at,
             b"headread: behind the settings, if any, must stand request, response, headers or chunk, or --plain",
         ),
     }
 }
 
-fn asked_plain(at: usize, settings: Settings) -> Call
+fn asked_plain(rt: &HostRuntime, at: usize, settings: Settings) -> Call
     requires { at ≤ 9 }
 {
-    let word = kind_at(at);
+    let word = kind_at(rt, at);
     match word {
         Word::Is(kind) => match kind {
-            Kind::Chunk => refused(b"headread: a chunk size line has no plain form\n"),
-            _ => with_file(kind, Mode::Plain, settings, at + 1),
+            Kind::Chunk => refused(rt, b"headread: a chunk size line has no plain form\n"),
+            _ => with_file(rt, kind, Mode::Plain, settings, at + 1),
         },
         Word::Other => refused_word(
+            rt,
             at,
             b"headread: behind --plain must stand request, response or headers",
         ),
     }
 }
 
-fn kind_at(at: usize) -> Word {
-    let mut word = io::buffer();
-    let n = os::arg(at, &mut word);
-    kind(&word[..n])
+fn kind_at(rt: &HostRuntime, at: usize) -> Word {
+    let mut room = room();
+    kind(argument(rt, at, &mut room))
 }
 
 fn kind(word: &[u8]) -> Word {
-    if check::same(word, b"request") {
+    if same(word, b"request") {
         return Word::Is(Kind::Request);
     }
-    if check::same(word, b"response") {
+    if same(word, b"response") {
         return Word::Is(Kind::Response);
     }
-    if check::same(word, b"headers") {
+    if same(word, b"headers") {
         return Word::Is(Kind::Headers);
     }
-    if check::same(word, b"chunk") {
+    if same(word, b"chunk") {
         Word::Is(Kind::Chunk)
     } else {
         Word::Other
     }
 }
 
-fn is(at: usize, option: &[u8]) -> bool {
-    let mut word = io::buffer();
-    let n = os::arg(at, &mut word);
-    check::same(&word[..n], option)
+fn is(rt: &HostRuntime, at: usize, option: &[u8]) -> bool {
+    let mut room = room();
+    same(argument(rt, at, &mut room), option)
 }
 
 // A setting is for the kinds that it changes.
-fn with_file(kind: Kind, mode: Mode, settings: Settings, at: usize) -> Call {
+fn with_file(rt: &HostRuntime, kind: Kind, mode: Mode, settings: Settings, at: usize) -> Call {
     let of_requests = settings.ascii_targets | settings.spaces_in_request_line;
     let of_responses = settings.spaces_in_status_line
         | settings.spaces_after_name
@@ -115,6 +115,7 @@ fn with_file(kind: Kind, mode: Mode, settings: Settings, at: usize) -> Call {
         Kind::Request => {
             if of_responses {
                 return refused(
+                    rt,
                     b"headread: --spaces-in-status-line, --spaces-after-name and --multiline-headers are for responses: a request has none of them\n",
                 );
             }
@@ -122,6 +123,7 @@ fn with_file(kind: Kind, mode: Mode, settings: Settings, at: usize) -> Call {
         Kind::Response => {
             if of_requests {
                 return refused(
+                    rt,
                     b"headread: --ascii-targets and --spaces-in-request-line are for requests: a response has neither\n",
                 );
             }
@@ -129,58 +131,61 @@ fn with_file(kind: Kind, mode: Mode, settings: Settings, at: usize) -> Call {
         _ => {
             if of_requests | of_responses | of_both {
                 return refused(
+                    rt,
                     b"headread: settings are for requests and responses: headers alone and a chunk size line have none\n",
                 );
             }
         }
     }
-    file_at(kind, mode, settings, at)
+    file_at(rt, kind, mode, settings, at)
 }
 
 // The file is the last argument, and may be left out.
-fn file_at(kind: Kind, mode: Mode, settings: Settings, at: usize) -> Call {
-    let count = os::arg_count();
+fn file_at(rt: &HostRuntime, kind: Kind, mode: Mode, settings: Settings, at: usize) -> Call {
+    let count = count(rt);
     if count <= at {
         return Call::Read(kind, mode, settings, 0);
     }
-    if is_option(at) {
+    if is_option(rt, at) {
         return refused(
+            rt,
             b"headread: settings stand first, then --plain, and --raw behind the kind; a file whose name starts with - is given as ./-\n",
         );
     }
     if at < count - 1 {
         return refused(
+            rt,
             b"headread: too many arguments: one file is read, and its name stands last\n",
         );
     }
     Call::Read(kind, mode, settings, at)
 }
 
-fn is_option(at: usize) -> bool {
-    let mut word = io::buffer();
-    let n = os::arg(at, &mut word);
-    if n == 0 {
+fn is_option(rt: &HostRuntime, at: usize) -> bool {
+    let mut room = room();
+    let word = argument(rt, at, &mut room);
+    if word.len() == 0 {
         return false;
     }
     word[0] == b'-'
 }
 
 // Says what must stand there, and which word does.
-fn refused_word(at: usize, why: &[u8]) -> Call {
-    let mut word = io::buffer();
-    let n = os::arg(at, &mut word);
-    io::write_all(STDERR_FILENO, why);
-    if 0 < n {
-        io::write_all(STDERR_FILENO, b"; here stands ");
-        io::write_all(STDERR_FILENO, &word[..n]);
+fn refused_word(rt: &HostRuntime, at: usize, why: &[u8]) -> Call {
+    let mut room = room();
+    let word = argument(rt, at, &mut room);
+    tell(rt, why);
+    if 0 < word.len() {
+        tell(rt, b"; here stands ");
+        tell(rt, word);
     }
-    refused(b"\n")
+    refused(rt, b"\n")
 }
 
-fn refused(why: &[u8]) -> Call {
-    io::write_all(STDERR_FILENO, why);
-    io::write_all(
-        STDERR_FILENO,
+fn refused(rt: &HostRuntime, why: &[u8]) -> Call {
+    tell(rt, why);
+    tell(
+        rt,
         b"usage: headread [SETTING ..] request|response|headers|chunk [--raw] [FILE]
        headread [SETTING ..] --plain request|response|headers [FILE]
   says what stands at the start of FILE, or of standard input where no file is named

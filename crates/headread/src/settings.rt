@@ -1,6 +1,7 @@
 // The settings, which stand before all other arguments, in any order.
 ghost use Rattle.std.specs.Prelude.{◌≤◌};
 
+use crate::words::{argument, room, same};
 use rules::Settings;
 
 // How many settings there are.
@@ -25,7 +26,7 @@ pub struct Taken {
     pub next: usize,
 }
 
-pub fn first() -> Taken
+pub fn first(rt: &HostRuntime) -> Taken
     ensures { result.next ≤ 8 }
 {
     let mut settings = Settings {
@@ -40,7 +41,7 @@ pub fn first() -> Taken
     };
     let mut next = 1;
     while next <= SETTINGS {
-        let setting = setting_at(next);
+        let setting = setting_at(rt, next);
         match setting {
             Setting::AsciiTargets => settings.ascii_targets = true,
             Setting::SpacesInRequestLine => settings.spaces_in_request_line = true,
@@ -60,32 +61,31 @@ pub fn first() -> Taken
     Taken { settings, next }
 }
 
-fn setting_at(at: usize) -> Setting {
-    let mut word = io::buffer();
-    let n = os::arg(at, &mut word);
-    named(&word[..n])
+fn setting_at(rt: &HostRuntime, at: usize) -> Setting {
+    let mut room = room();
+    named(argument(rt, at, &mut room))
 }
 
 fn named(word: &[u8]) -> Setting {
-    if check::same(word, b"--ascii-targets") {
+    if same(word, b"--ascii-targets") {
         return Setting::AsciiTargets;
     }
-    if check::same(word, b"--spaces-in-request-line") {
+    if same(word, b"--spaces-in-request-line") {
         return Setting::SpacesInRequestLine;
     }
-    if check::same(word, b"--spaces-in-status-line") {
+    if same(word, b"--spaces-in-status-line") {
         return Setting::SpacesInStatusLine;
     }
-    if check::same(word, b"--space-before-first-name") {
+    if same(word, b"--space-before-first-name") {
         return Setting::SpaceBeforeFirstName;
     }
-    if check::same(word, b"--spaces-after-name") {
+    if same(word, b"--spaces-after-name") {
         return Setting::SpacesAfterName;
     }
-    if check::same(word, b"--multiline-headers") {
+    if same(word, b"--multiline-headers") {
         return Setting::MultilineHeaders;
     }
-    if check::same(word, b"--ignore-invalid-headers") {
+    if same(word, b"--ignore-invalid-headers") {
         Setting::IgnoreInvalidHeaders
     } else {
         Setting::Other

@@ -1,4 +1,6 @@
 // Texts put one behind another into a lent slice, each if there is room for all of it, and how long they are in all.
+#![tactic(auto)]
+
 ghost use Rattle.output.specs.Put.{Adds, WholeOrNot};
 
 // Puts a text at a position if it ends within `out`. Answers the position behind it, and usize::MAX where there is no such number.
@@ -13,6 +15,6 @@ pub fn put(out: &mut [u8], at: usize, text: &[u8]) -> usize
     if out.len() < end {
         return end;
     }
-    bytes::copy(text, &mut out[at..end]);
+    out[at..end].copy_from_slice(text);
     end
 }

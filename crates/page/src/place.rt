@@ -1,7 +1,7 @@
 // Lines and parts of the input.
 
 // A line's number, the first being 1, where it starts, and how many bytes of it there are.
-#[derive(Drop)]
+#[derive(Clone, Copy)]
 pub struct Line {
     pub number: usize,
     pub start: usize,

@@ -1,6 +1,6 @@
 // Text on a page. Each function answers the position behind what it put there. A position past the page's end says that there was no
 // room, and each later call answers it again.
-ghost use Rattle.std.specs.Prelude.{◌<◌};
+ghost use Rattle.std.specs.Prelude.{◌<◌, ◌≤◌};
 
 use crate::place::part;
 
@@ -18,13 +18,32 @@ fn put_in(page: &mut [u8], at: usize, text: &[u8]) -> usize {
     if page.len() - at < text.len() {
         return page.len() + 1;
     }
-    at + bytes::copy(text, &mut page[at..])
+    let end = at + text.len();
+    page[at..end].copy_from_slice(text);
+    end
 }
 
 fn number(page: &mut Page, at: usize, n: usize) -> usize {
     let mut digits = [0u8; 20];
-    let k = io::decimal(n as u64, &mut digits);
-    put(page, at, &digits[..k])
+    let start = decimal(n, &mut digits);
+    put(page, at, &digits[start..])
+}
+
+// Puts a number's decimal digits at the end, which has room for any, and answers where they start.
+fn decimal(n: usize, digits: &mut [u8; 20]) -> usize
+    ensures { result ≤ 20 }
+{
+    let mut rest = n;
+    let mut start = 20;
+    while 0 < start {
+        start -= 1;
+        digits[start] = b'0' + (rest % 10) as u8;
+        rest /= 10;
+        if rest == 0 {
+            return start;
+        }
+    }
+    start
 }
 
 // A form, with the first number in the place of its first #, and the second in that of each other.
@@ -45,7 +64,7 @@ pub fn fill(page: &mut Page, at: usize, form: &[u8], first: usize, second: usize
 }
 
 // A byte as it is shown, and how many columns that takes.
-#[derive(Drop)]
+#[derive(Clone, Copy)]
 pub struct Escape {
     pub text: [u8; 4],
     pub columns: usize,

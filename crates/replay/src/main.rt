@@ -1,10 +1,13 @@
 // Replays recorded answers of httparse: reads rows from standard input, asks Headreader the same, and says how many differ.
+#![tactic(auto)]
+
 ghost use Rattle.std.specs.Prelude.{◌≡◌, ◌+◌, ◌<◌, ◌≤◌, length};
 
 mod row;
 
-use libc::{STDIN_FILENO, STDOUT_FILENO};
 use row::{read_input, read_number};
+use std::io;
+use std::io::{Read, Stdin};
 
 // The most headers that a row has slots for, and the numbers behind which none is ever written.
 const MOST_HEADERS: u64 = 16;
@@ -169,9 +172,9 @@ fn replay_rows(s: &[u8], so_far: Tally) -> Tally
                 next: at,
             };
         }
-        rows = std::num::wrapping_add_u64(rows, 1);
+        rows = rows.wrapping_add(1);
         if !agrees(&s[at..end]) {
-            differ = std::num::wrapping_add_u64(differ, 1);
+            differ = differ.wrapping_add(1);
         }
         at = end + 1;
     }
@@ -198,20 +201,24 @@ fn move_front(buffer: &mut [u8], from: usize, end: usize) -> usize
 }
 
 // Reads behind what is kept: how many bytes came.
-fn read_behind(buffer: &mut [u8], kept: usize) -> usize
+fn read_behind(mut stdin: Stdin, buffer: &mut [u8], kept: usize) -> usize
     requires { kept ≤ length buffer.old }
     ensures { (kept + result ≤ length buffer.old) × (kept + result < 0x8000_0000_0000_0000) × (length buffer.new ≡ length buffer.old) }
 {
-    let room = buffer.len() - kept;
-    let got = io::read_full(STDIN_FILENO, &mut buffer[kept..]);
-    if room < got {
-        return 0;
+    let mut filled = kept;
+    while filled < buffer.len() {
+        // what can't be read is no more than what has ended
+        let more = stdin.read(&mut buffer[filled..]).unwrap_or(0);
+        if more == 0 {
+            break;
+        }
+        filled += more;
     }
-    got
+    filled - kept
 }
 
-fn main() {
-    let mut space = io::large_buffer();
+fn main(rt: HostRuntime) -> io::Result<()> {
+    let mut space = [0u8; 65536];
     let buffer: &mut [u8] = &mut space;
     let mut tally = Tally {
         rows: 0,
@@ -224,7 +231,7 @@ fn main() {
         if buffer.len() <= kept {
             break;
         }
-        let got = read_behind(buffer, kept);
+        let got = read_behind(rt.stdin(), buffer, kept);
         let filled = kept + got;
         tally = replay_rows(&buffer[0..filled], tally);
         let next = tally.next;
@@ -234,8 +241,7 @@ fn main() {
         }
         turns += 1;
     }
-    io::print_decimal(STDOUT_FILENO, tally.rows);
-    io::write_all(STDOUT_FILENO, b" answers replayed, ");
-    io::print_decimal(STDOUT_FILENO, tally.differ);
-    io::write_all(STDOUT_FILENO, b" differ\n");
+    let rows = tally.rows;
+    let differ = tally.differ;
+    println!(rt; "{rows} answers replayed, {differ} differ")
 }

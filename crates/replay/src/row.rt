@@ -21,7 +21,7 @@ pub fn read_number(s: &[u8], at: usize) -> Number {
             return Number { value, next: i + 1 };
         }
         if value < TEN_TIMES_FITS {
-            value = std::num::wrapping_add_u64(value * 10, wide(b));
+            value = (value * 10).wrapping_add(wide(b));
         }
         i += 1;
     }

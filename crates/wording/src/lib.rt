@@ -1,10 +1,12 @@
 // What can be read and what can be wrong with it, and what an answer means, in words that somebody can act on.
+#![tactic(auto)]
+
 pub mod advice;
 
 use page::text::{Page, put};
 use parts::Error;
 
-#[derive(Drop)]
+#[derive(Clone, Copy)]
 pub enum Kind {
     Request,
     Response,

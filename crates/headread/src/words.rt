@@ -1,0 +1,68 @@
+// What the system gives and takes in words: the arguments, and what standard error is told.
+use std::env::{Env, FillError};
+use std::io;
+
+// Zeros, which hold any path.
+pub fn room() -> [u8; 4096] {
+    [0; 4096]
+}
+
+// An argument, put at the start of this room. None where there is no such argument, or it is longer.
+pub fn whole<'a>(rt: &HostRuntime, at: usize, room: &'a mut [u8]) -> Option<&'a [u8]> {
+    match rt.arg(at, room) {
+        Ok(n) => Some(&room[..n]),
+        Err(_) => None,
+    }
+}
+
+// The same, with no byte in place of none.
+pub fn argument<'a>(rt: &HostRuntime, at: usize, room: &'a mut [u8]) -> &'a [u8] {
+    whole(rt, at, room).unwrap_or(b"")
+}
+
+// How many arguments there are, the program's own name with them.
+pub fn count(rt: &HostRuntime) -> usize {
+    for at in 0..usize::MAX {
+        if is_missing(rt, at) {
+            return at;
+        }
+    }
+    usize::MAX
+}
+
+fn is_missing(rt: &HostRuntime, at: usize) -> bool {
+    let found = rt.arg(at, &mut []);
+    match found {
+        Err(FillError::NotPresent) => true,
+        _ => false,
+    }
+}
+
+pub fn same(a: &[u8], b: &[u8]) -> bool {
+    a == b
+}
+
+// Where standard error can't be written, nobody can be told.
+pub fn tell(rt: &HostRuntime, text: &[u8]) {
+    let _ = rt.stderr().write_all(text);
+}
+
+// Tells what the system has against something.
+pub fn tell_why(rt: &HostRuntime, what: &[u8], error: io::Error) {
+    tell(rt, what);
+    tell(rt, b": ");
+    let written = format!(in rt.alloc(); "{error}");
+    match written {
+        Ok(text) => tell(rt, without_number(text.as_str()).as_bytes()),
+        Err(_) => tell(rt, b"out of memory"),
+    }
+    tell(rt, b"\n");
+}
+
+// The system's own words. std puts the error's number behind them.
+fn without_number(text: &str) -> &str {
+    match text.split_once(" (os error ") {
+        Some((words, _)) => words,
+        None => text,
+    }
+}
