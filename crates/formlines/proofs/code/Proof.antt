@@ -11,8 +11,8 @@ code_spec =
     tie.close
     (tie.spec
     (λ c κs. search rules)
-    (λ c. record { fits = omega (arith, number_most c.before.before.before.requires c.before.number.ensures) })
-    (λ c. record { fits = omega (arith, number_most c.before.before.before.requires c.before.number.ensures) })
+    (λ c. record { fits = omega (arith, number_most c.before.before.before.requires c.before.number-n.ensures) })
+    (λ c. record { fits = omega (arith, number_most c.before.before.before.requires c.before.number-n.ensures) })
     (λ c. search rules)
     (λ c. search rules)
     (λ c. search rules)
