@@ -10,7 +10,7 @@ use parts::{Error, Fault, Passed};
 use rules::LineSettings;
 
 // What reading the block comes to, and how many headers are in the slots.
-#[derive(Drop)]
+#[derive(Clone, Copy)]
 pub struct Block {
     pub end: Passed,
     pub count: usize,

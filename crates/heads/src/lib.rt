@@ -15,7 +15,7 @@ use rules::{LineSettings, Settings};
 use statusline::StatusLine;
 
 // What reading a request comes to, what is known of its start line, and how many headers are in the slots.
-#[derive(Drop)]
+#[derive(Clone, Copy)]
 pub struct RequestHead {
     pub end: Passed,
     pub line: RequestLine,
@@ -23,7 +23,7 @@ pub struct RequestHead {
 }
 
 // The same of a response.
-#[derive(Drop)]
+#[derive(Clone, Copy)]
 pub struct ResponseHead {
     pub end: Passed,
     pub line: StatusLine,

@@ -11,7 +11,7 @@ use parts::{Error, Found, Number, Passed};
 use rules::Settings;
 use startline::{KnownNumber, KnownPiece};
 
-#[derive(Drop)]
+#[derive(Clone, Copy)]
 pub struct RequestLine {
     pub method: KnownPiece,
     pub target: KnownPiece,

@@ -15,7 +15,7 @@ use parts::{Error, Found, Number, Passed, Piece};
 use rules::Settings;
 use startline::{KnownNumber, KnownPiece};
 
-#[derive(Drop)]
+#[derive(Clone, Copy)]
 pub struct StatusLine {
     pub version: KnownNumber,
     pub code: KnownNumber,
