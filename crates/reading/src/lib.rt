@@ -19,7 +19,7 @@ pub const NUMBERS: usize = MOST_HEADERS * 4;
 pub type Slots = [usize; NUMBERS];
 
 // The position behind what was read; or more is wanted; or what is wrong, and the position of the byte that decided it.
-#[derive(Drop)]
+#[derive(Clone, Copy)]
 pub enum Answer {
     Complete(usize),
     Incomplete,
@@ -27,7 +27,7 @@ pub enum Answer {
 }
 
 // What the start line tells, as far as it is known.
-#[derive(Drop)]
+#[derive(Clone, Copy)]
 pub enum First {
     Request(RequestLine),
     Status(StatusLine),
@@ -35,7 +35,7 @@ pub enum First {
     Nothing,
 }
 
-#[derive(Drop)]
+#[derive(Clone, Copy)]
 pub struct Reading {
     pub answer: Answer,
     pub first: First,

@@ -11,11 +11,11 @@ use Rattle.writer.proofs.plain_response.Statement.{statement}
 use Rattle.writer.proofs.plain_response.Tie as tie
 
 -- a slice lies in memory, so neither the lent bytes nor twice the input are as many as that
-returns-2 : tie.Need-returns-2
+returns-2 : tie.Need-returns-then-n
 returns-2 c =
     let start = c.before.before.before.before.before.before.before.before.before in
-    let h : length start.args.out.now < greatest = omega (arith, start.well-formed) in
-    let k : length start.args.s.now * 2 < greatest = omega (arith, start.well-formed) in
+    let h : length start.args.out.now < greatest = omega (arith, start.well_formed) in
+    let k : length start.args.s.now * 2 < greatest = omega (arith, start.well_formed) in
     search (rules, not-false, no_number, h, k)
 
 pub plain_response_spec : {M : Type 1} → statement M
