@@ -54,7 +54,10 @@ pub fn tell_why(rt: &HostRuntime, what: &[u8], error: io::Error) {
     let written = format!(in rt.alloc(); "{error}");
     match written {
         Ok(text) => tell(rt, without_number(text.as_str()).as_bytes()),
-        Err(_) => tell(rt, b"out of memory"),
+        // with no memory to cut it off in, the number is told too
+        Err(_) => {
+            let _ = rt.eprint(error);
+        }
     }
     tell(rt, b"\n");
 }

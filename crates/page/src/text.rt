@@ -1,6 +1,7 @@
 // Text on a page. Each function answers the position behind what it put there. A position past the page's end says that there was no
 // room, and each later call answers it again.
-ghost use Rattle.std.specs.Prelude.{◌<◌, ◌≤◌};
+ghost use Rattle.std.specs.Prelude.{◌≡◌, ◌<◌, ◌≤◌, drop};
+ghost use Rattle.std.specs.Fmt.{decimal};
 
 use crate::place::part;
 
@@ -25,24 +26,24 @@ fn put_in(page: &mut [u8], at: usize, text: &[u8]) -> usize {
 
 fn number(page: &mut Page, at: usize, n: usize) -> usize {
     let mut digits = [0u8; 20];
-    let start = decimal(n, &mut digits);
+    let start = put_digits(n, &mut digits);
     put(page, at, &digits[start..])
 }
 
 // Puts a number's decimal digits at the end, which has room for any, and answers where they start.
-fn decimal(n: usize, digits: &mut [u8; 20]) -> usize
-    ensures { result ≤ 20 }
+fn put_digits(n: usize, digits: &mut [u8; 20]) -> usize
+    ensures start { result ≤ 20 }
+    ensures written { drop result digits.new ≡ decimal n }
 {
     let mut rest = n;
     let mut start = 20;
-    while 0 < start {
+    while 10 <= rest {
         start -= 1;
         digits[start] = b'0' + (rest % 10) as u8;
         rest /= 10;
-        if rest == 0 {
-            return start;
-        }
     }
+    start -= 1;
+    digits[start] = b'0' + rest as u8;
     start
 }
 

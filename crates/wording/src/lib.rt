@@ -15,7 +15,7 @@ pub enum Kind {
 }
 
 // What can be wrong with an input.
-#[derive(Drop)]
+#[derive(Clone, Copy)]
 pub enum Wrong {
     Head(Error),
     Size,
