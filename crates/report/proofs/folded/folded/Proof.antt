@@ -5,14 +5,14 @@ use borrow.Author.Rules.{rules}
 use Rattle.report.proofs.folded.folded.Statement.{statement}
 use Rattle.report.proofs.folded.folded.Tie as tie
 
-abbrev invariant-loop : tie.invariant-loop
+abbrev invariant-loop : tie.invariant-loop-k
 invariant-loop page₀ s slots k₀ page k = Unit {0}
 
-abbrev decreases-loop : tie.decreases-loop
+abbrev decreases-loop : tie.decreases-loop-k
 decreases-loop page₀ s slots k₀ page k = 100 - k
 
-pub folded-spec : {M : Type 1} → statement M
-folded-spec =
+pub folded_spec : {M : Type 1} → statement M
+folded_spec =
     tie.close
     (tie.spec
     invariant-loop

@@ -6,14 +6,14 @@ use lib.ListN.{length as length-of}
 use Rattle.report.proofs.folded.line_end_in.Statement.{statement}
 use Rattle.report.proofs.folded.line_end_in.Tie as tie
 
-abbrev invariant-loop : tie.invariant-loop
+abbrev invariant-loop : tie.invariant-loop-i
 invariant-loop s offset length left₀ i₀ left i = Unit {0}
 
-abbrev decreases-loop : tie.decreases-loop
+abbrev decreases-loop : tie.decreases-loop-i
 decreases-loop s offset length left₀ i₀ left i = length-of s - i
 
-pub line-end-in-spec : {M : Type 1} → statement M
-line-end-in-spec =
+pub line_end_in_spec : {M : Type 1} → statement M
+line_end_in_spec =
     tie.close
     (tie.spec
     invariant-loop
