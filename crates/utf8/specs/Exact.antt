@@ -10,7 +10,7 @@ use Rattle.octets.specs.Class.{within}
 use Rattle.octets.specs.Ties.{in_range, range_in}
 use Rattle.utf8.specs.Grammar.{UTF8_1, UTF8_2, UTF8_3, UTF8_4, UTF8_char, UTF8_octets}
 use Rattle.utf8.specs.Reader.{State, tail, lead, machine, whole, utf8}
-use Rattle.utf8.specs.Rows.{row_00_7_f, row_C2_DF, row_E0, row_E1_EC, row_ED, row_EE_EF, row_F0, row_F1_F3, row_F4}
+use Rattle.utf8.specs.Rows.{row_00_7F, row_C2_DF, row_E0, row_E1_EC, row_ED, row_EE_EF, row_F0, row_F1_F3, row_F4}
 
 -- the bytes xs come in the ranges of the state, and characters behind them
 data Awaits : State → List ℕ → Type 0 where
@@ -68,7 +68,7 @@ module _ (v : List ℕ) (at_rest : (p : ℕ) → whole (run machine [] p v) ≡ 
   within_tail {b} r = range_in 0x80 0xBF b r
 
   char_1 : {w : List ℕ} → UTF8_1 w → (p : ℕ) → whole (run machine [] p (w ++ v)) ≡ true
-  char_1 (UTF8_1.«00-7F» {a = a} r) p = rw (← row_00_7_f a (omega (arith, r.high))) (at_rest (p + 1))
+  char_1 (UTF8_1.«00-7F» {a = a} r) p = rw (← row_00_7F a (omega (arith, r.high))) (at_rest (p + 1))
 
   char_2 : {w : List ℕ} → UTF8_2 w → (p : ℕ) → whole (run machine [] p (w ++ v)) ≡ true
   char_2 (UTF8_2.C2_DF {a = a} {b = b} r x) p = rw (← row_C2_DF a (range_in 0xC2 0xDF a r), within_tail x) (at_rest (p + 1 + 1))

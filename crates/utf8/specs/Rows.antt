@@ -9,9 +9,9 @@ use Rattle.octets.specs.Ties.{in_range, above_range, range_in}
 use Rattle.utf8.specs.Reader.{tail, lead}
 
 module _ (b : ℕ) where
-  pub row_00_7_f : b < 0x80 → keep [] ≡ lead b
+  pub row_00_7F : b < 0x80 → keep [] ≡ lead b
   unfolding lead
-  row_00_7_f h = rw (range_in 0x00 0x7F b (record { low = omega arith; high = omega arith }))
+  row_00_7F h = rw (range_in 0x00 0x7F b (record { low = omega arith; high = omega arith }))
 
   pub row_C2_DF : within 0xC2 0xDF b ≡ true → keep (tail ∷ []) ≡ lead b
   unfolding lead
@@ -57,4 +57,4 @@ module _ (b : ℕ) where
   row_none a c e f g h i j k =
       rw (above_range 0x00 0x7F b a, c, ne_eqb b 0xE0 e, f, ne_eqb b 0xED g, h, ne_eqb b 0xF0 i, j, ne_eqb b 0xF4 k)
 
-pub ruleset rows = (row_00_7_f, row_C2_DF, row_E0, row_E1_EC, row_ED, row_EE_EF, row_F0, row_F1_F3, row_F4, row_none)
+pub ruleset rows = (row_00_7F, row_C2_DF, row_E0, row_E1_EC, row_ED, row_EE_EF, row_F0, row_F1_F3, row_F4, row_none)
