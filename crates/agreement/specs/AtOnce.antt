@@ -16,7 +16,7 @@ use Rattle.reader.specs.Answer.{got, bad, answer}
 use Rattle.reader.specs.Chain.{nothing, chain}
 use Rattle.octets.specs.Grammar.{VCHAR}
 use Rattle.octets.specs.Class.{is_token, is_visible}
-use Rattle.octets.specs.Ties.{token_is_tchar, visible_is_VCHAR}
+use Rattle.octets.proofs.Ties.{token_is_tchar, visible_is_VCHAR}
 use Rattle.octets.specs.Outside.{space_no_token}
 use Rattle.rules.specs.Rules.{Rules}
 use Rattle.grammar.specs.Rows.{Many, none, more, some}

@@ -8,11 +8,13 @@ use Rattle.reader.specs.Seq.{first}
 use Rattle.exact.specs.Exact.{Relation, Exact}
 use Rattle.exact.specs.Judged.{Passes, exact_judged}
 use Rattle.exact.specs.Branch.{one, other}
-use Rattle.exact.specs.Loop.{Laps, exact_loop}
+use Rattle.exact.specs.Loop.{Laps}
+use Rattle.exact.proofs.Loop.{exact_loop}
 use Rattle.rules.specs.Rules.{Rules}
 use Rattle.fields.specs.declared.Header.{Header}
 use Rattle.fields.specs.Line.{Kind, line_step}
-use Rattle.blocks.specs.Block.{taken, blanks_before, next_line_step, lap_step, block_step, block_fresh}
+use Rattle.blocks.specs.Block.{taken, blanks_before, next_line_step, lap_step, block_step}
+use Rattle.blocks.proofs.BlockRead.{block_fresh}
 use Rattle.leaves.specs.Gap.{BehindGap, exact_behind_gap}
 use Rattle.lengths.specs.Lengths.{ends_long}
 use Rattle.agreement.specs.Tried.{good, wrong}

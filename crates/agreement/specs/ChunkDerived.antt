@@ -8,7 +8,7 @@ use Rattle.reader.specs.Tests.{split, never}
 use Rattle.octets.specs.Grammar.{HEXDIG}
 use Rattle.octets.specs.Grammar as bytes
 use Rattle.octets.specs.Class.{is_hex_digit, is_blank}
-use Rattle.octets.specs.Ties.{hex_digit_is_HEXDIG, blank_is_blank}
+use Rattle.octets.proofs.Ties.{hex_digit_is_HEXDIG, blank_is_blank}
 use Rattle.rules.specs.Rules.{default}
 use Rattle.grammar.specs.Rows.{Many, none, more}
 use Rattle.grammar.specs.Message.{CRLF}

@@ -6,7 +6,7 @@ use Rattle.reader.specs.Machine.{Run, gave, run}
 use Rattle.octets.specs.Grammar.{IsBlank}
 use Rattle.octets.specs.Grammar as bytes
 use Rattle.octets.specs.Class.{within, is_digit, is_hex_digit}
-use Rattle.octets.specs.Ties.{hex_digit_is_HEXDIG, blank_is_blank}
+use Rattle.octets.proofs.Ties.{hex_digit_is_HEXDIG, blank_is_blank}
 use Rattle.octets.specs.Outside.{cr_no_blank, semicolon_no_blank, cr_no_digit, semicolon_no_digit}
 use Rattle.rules.specs.Rules.{default}
 use Rattle.grammar.specs.Rows.{Many, none, more}

@@ -4,7 +4,7 @@ use Rattle.std.specs.Prelude.{ℕ, ◌+◌, ◌≤◌, ◌≡◌, refl, List, �
 use Rattle.std.proofs.Common.{arith, sym, ap, subst, ◌∙◌, append_assoc, length-append}
 use Rattle.reader.specs.Tests.{never}
 use Rattle.exact.specs.Branch.{one, other}
-use Rattle.octets.specs.Ties.{token_is_tchar}
+use Rattle.octets.proofs.Ties.{token_is_tchar}
 use Rattle.rules.specs.Rules.{Rules}
 use Rattle.grammar.specs.Rows.{some}
 use Rattle.grammar.specs.Fields.{Field}

@@ -5,7 +5,8 @@ use Rattle.std.proofs.Common.{arith, sym, ap, subst, ◌∙◌, append_assoc, ap
 use Rattle.reader.specs.Machine.{run}
 use Rattle.reader.specs.Judged.{Verdict, pass, fail}
 use Rattle.reader.specs.Loop.{Turn, again, done}
-use Rattle.reader.specs.Answer.{Answer, got, short, bad, answer, answered, verdict, retold, rounds}
+use Rattle.reader.specs.Answer.{Answer, got, short, bad, answer, verdict, retold, rounds}
+use Rattle.reader.proofs.Answer.{answered}
 use Rattle.reader.specs.Chain.{nothing}
 use Rattle.reader.specs.Branch.{fresh}
 use Rattle.reader.specs.Skip.{Skipped}
@@ -13,7 +14,7 @@ use Rattle.reader.specs.Tests.{both_true, split, clash, never}
 use Rattle.exact.specs.Loop.{Laps, last, next}
 use Rattle.rules.specs.Rules.{Rules}
 use Rattle.octets.specs.Class.{is_blank}
-use Rattle.octets.specs.Ties.{blank_is_blank, token_is_tchar}
+use Rattle.octets.proofs.Ties.{blank_is_blank, token_is_tchar}
 use Rattle.octets.specs.Outside.{cr_no_blank, lf_no_blank, token_no_blank}
 use Rattle.grammar.specs.Rows.{some}
 use Rattle.grammar.specs.Fields.{IsFieldName, Field}
@@ -26,8 +27,10 @@ use Rattle.parts.specs.declared.Fault.{Fault}
 use Rattle.parts.specs.Answers.{fault}
 use Rattle.fields.specs.declared.Header.{Header}
 use Rattle.fields.specs.Line.{Kind, header, end, ignored, line_step, line}
-use Rattle.gaps.specs.Gap.{gap_end, end_skipped}
-use Rattle.blocks.specs.Block.{taken, none_yet, blanks_before, block, block_line, given}
+use Rattle.gaps.specs.Gap.{gap_end}
+use Rattle.gaps.proofs.Gap.{end_skipped}
+use Rattle.blocks.specs.Block.{taken, none_yet, blanks_before, block, given}
+use Rattle.blocks.proofs.BlockRead.{block_line}
 use Rattle.agreement.specs.Line.{Lined, exact_line}
 use Rattle.agreement.specs.Block.{Lapped, line_long}
 use Rattle.agreement.specs.Places.{At, at_as, at_drop, at_first, at_second, from_at}

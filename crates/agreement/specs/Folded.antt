@@ -8,7 +8,7 @@ use Rattle.reader.specs.Tests.{clash, never}
 use Rattle.exact.specs.Loop.{Laps, last, next}
 use Rattle.exact.specs.Branch.{one, other}
 use Rattle.octets.specs.Class.{is_blank, is_value}
-use Rattle.octets.specs.Ties.{blank_is_blank, value_is_text}
+use Rattle.octets.proofs.Ties.{blank_is_blank, value_is_text}
 use Rattle.octets.specs.Outside.{cr_no_value, lf_no_value}
 use Rattle.rules.specs.Rules.{Rules}
 use Rattle.grammar.specs.Rows.{Many, none, more}

@@ -8,8 +8,9 @@ use Rattle.reader.specs.Seq.{first}
 use Rattle.reader.specs.Loop.{Turn, again}
 use Rattle.reader.specs.Branch.{fresh}
 use Rattle.reader.specs.Chain.{part}
-use Rattle.reader.specs.Refusals.{Refusal, Refuses, refused_is, refuses_as, passes, refuses_judged, refuses_seq, refuses_branch, refuses_loop}
-use Rattle.reader.specs.Rescued.{refuses_rescue}
+use Rattle.reader.specs.Refusals.{Refusal, Refuses}
+use Rattle.reader.proofs.Refusals.{refused_is, refuses_as, passes, refuses_judged, refuses_seq, refuses_branch, refuses_loop}
+use Rattle.reader.proofs.Rescued.{refuses_rescue}
 use Rattle.reader.specs.Tests.{split, never}
 use Rattle.octets.specs.Class.{is_digit, is_token, is_value}
 use Rattle.utf8.specs.Reader.{whole}
@@ -34,7 +35,8 @@ use Rattle.status.specs.Reason as reasons
 use Rattle.fields.specs.declared.Header.{Header}
 use Rattle.ignored.specs.Rest.{is_ignorable, rest_step, behind_byte}
 use Rattle.fields.specs.Wrong.{blamed, Wrong}
-use Rattle.fields.specs.Line.{Kind, header, end, ignored, field_step, field_refuses, ignored_step, tried_step, untried, ends, line_step}
+use Rattle.fields.specs.Line.{Kind, header, end, ignored, field_step, ignored_step, tried_step, untried, ends, line_step}
+use Rattle.fields.proofs.LineRead.{field_refuses}
 use Rattle.blocks.specs.Block.{taken, blanks_before, next_line_step, lap_step, block_step}
 use Rattle.requestline.specs.RequestLine as requests
 use Rattle.statusline.specs.StatusLine as statuses

@@ -6,7 +6,8 @@ use Rattle.reader.specs.Judged.{pass, judged}
 use Rattle.reader.specs.Seq.{first}
 use Rattle.exact.specs.Exact.{Relation, Exact}
 use Rattle.exact.specs.Judged.{Passes, exact_judged}
-use Rattle.exact.specs.Seq.{Both, exact_seq}
+use Rattle.exact.specs.Seq.{Both}
+use Rattle.exact.proofs.Seq.{exact_seq}
 use Rattle.parts.specs.declared.Fault.{Fault}
 use Rattle.rules.specs.Rules.{Rules}
 use Rattle.blocks.specs.Block.{block_step}

@@ -7,14 +7,15 @@ use Rattle.reader.specs.Tests.{clash, never}
 use Rattle.exact.specs.Branch.{other}
 use Rattle.octets.specs.Grammar.{IsTchar, IsBlank}
 use Rattle.octets.specs.Class.{is_token}
-use Rattle.octets.specs.Ties.{blank_is_blank, token_is_tchar}
+use Rattle.octets.proofs.Ties.{blank_is_blank, token_is_tchar}
 use Rattle.octets.specs.Outside.{differs_test, cr_no_token, lf_no_token, cr_no_blank, lf_no_blank}
 use Rattle.rules.specs.Rules.{Rules}
 use Rattle.grammar.specs.Rows.{Many, none, more, some}
 use Rattle.grammar.specs.Fields.{IsFieldName}
 use Rattle.grammar.specs.Message.{IsLineEnd, crlf, lf, colon, IsIgnorable, IsIgnoredLine}
 use Rattle.grammar.specs.Message as grammar
-use Rattle.ignored.specs.Rest.{is_ignorable, nul_stops, cr_stops, lf_stops, others_pass}
+use Rattle.ignored.specs.Rest.{is_ignorable}
+use Rattle.ignored.proofs.RestOfLine.{nul_stops, cr_stops, lf_stops, others_pass}
 use Rattle.fields.specs.Line.{ignored, ends}
 use Rattle.leaves.specs.Rows.{In}
 use Rattle.leaves.specs.Gap.{GapStops}

@@ -22,7 +22,6 @@ pub mod There
 pub mod Steps
 pub mod Delimiters
 pub mod Known
-pub mod Inside
 pub mod Full
 pub mod Request
 pub mod Tail
@@ -30,11 +29,8 @@ pub mod Response
 pub mod Exactly
 pub mod Promises
 pub mod Overflow
-pub mod Decided
-pub mod Kept
 pub mod Calls
 pub mod AtOnce
 pub mod Loose
 pub mod ChunkDerived
 pub mod ChunkRead
-pub mod Chunk

@@ -5,7 +5,8 @@ use Rattle.reader.specs.Seq.{first}
 use Rattle.reader.specs.Branch.{fresh}
 use Rattle.exact.specs.Exact.{Relation, Exact}
 use Rattle.exact.specs.Judged.{Passes, exact_judged}
-use Rattle.exact.specs.Seq.{Both, exact_seq}
+use Rattle.exact.specs.Seq.{Both}
+use Rattle.exact.proofs.Seq.{exact_seq}
 use Rattle.exact.specs.Branch.{Forks, exact_branch}
 use Rattle.parts.specs.declared.Fault.{Fault}
 use Rattle.parts.specs.declared.Error.TheVariants.{NewLine}

@@ -6,7 +6,7 @@ use Rattle.std.proofs.Common.{arith, sym, subst, append_assoc}
 use Rattle.std.proofs.lemmas.Bool.{eqb-false}
 use Rattle.octets.specs.Grammar.{IsBlank, IsTchar, IsText}
 use Rattle.octets.specs.Class.{is_blank, is_token, is_value}
-use Rattle.octets.specs.Ties.{blank_is_blank, token_is_tchar, value_is_text}
+use Rattle.octets.proofs.Ties.{blank_is_blank, token_is_tchar, value_is_text}
 use Rattle.octets.specs.Outside.{differs, cr_no_blank, cr_no_token, cr_no_value}
 use Rattle.rules.specs.Rules.{default}
 use Rattle.grammar.specs.Rows.{Many, none, more, Some, some}

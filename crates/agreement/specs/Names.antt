@@ -6,7 +6,7 @@ use Rattle.std.proofs.Math.Bool.{and-false}
 use Rattle.reader.specs.Tests.{both_true}
 use Rattle.octets.specs.Grammar.{IsBlank}
 use Rattle.octets.specs.Class.{is_blank, is_token}
-use Rattle.octets.specs.Ties.{blank_is_blank}
+use Rattle.octets.proofs.Ties.{blank_is_blank}
 use Rattle.octets.specs.Outside.{colon_no_blank, colon_no_token, token_no_blank}
 use Rattle.rules.specs.Rules.{Rules}
 use Rattle.gaps.specs.Gap.{blanks_if}

@@ -11,15 +11,16 @@ use Rattle.reader.specs.Judged.{pass, fail}
 use Rattle.reader.specs.Loop.{again}
 use Rattle.reader.specs.Bytes.{drop_in}
 use Rattle.reader.specs.Branch.{fresh}
-use Rattle.reader.specs.Answer.{Answer, got, short, bad, answer, answered, answered_bad, retold, rounds}
+use Rattle.reader.specs.Answer.{Answer, got, short, bad, answer, retold, rounds}
+use Rattle.reader.proofs.Answer.{answered, answered_bad}
 use Rattle.reader.specs.Chain.{nothing}
-use Rattle.reader.specs.Refusals.{refused_is}
+use Rattle.reader.proofs.Refusals.{refused_is}
 use Rattle.reader.specs.Skip.{Skipped}
-use Rattle.reader.specs.Decided.{gave_late}
+use Rattle.reader.proofs.Decided.{gave_late}
 use Rattle.reader.specs.Tests.{clash, never}
 use Rattle.octets.specs.Grammar.{IsBlank}
 use Rattle.octets.specs.Class.{is_blank}
-use Rattle.octets.specs.Ties.{blank_is_blank}
+use Rattle.octets.proofs.Ties.{blank_is_blank}
 use Rattle.rules.specs.Rules.{Rules}
 use Rattle.grammar.specs.Message.{IsLineEnd}
 use Rattle.parts.specs.declared.Error.TheVariants.{TooManyHeaders}
@@ -27,8 +28,10 @@ use Rattle.parts.specs.declared.Fault.{Fault}
 use Rattle.parts.specs.Answers.{fault}
 use Rattle.fields.specs.declared.Header.{Header}
 use Rattle.fields.specs.Line.{Kind, header, end, ignored, line_step, line}
-use Rattle.gaps.specs.Gap.{gap_end, end_skipped}
-use Rattle.blocks.specs.Block.{taken, none_yet, blanks_before, block, block_line, given}
+use Rattle.gaps.specs.Gap.{gap_end}
+use Rattle.gaps.proofs.Gap.{end_skipped}
+use Rattle.blocks.specs.Block.{taken, none_yet, blanks_before, block, given}
+use Rattle.blocks.proofs.BlockRead.{block_line}
 use Rattle.heads.specs.Head.{Heads, over}
 use Rattle.agreement.specs.Line.{exact_line}
 use Rattle.agreement.specs.Places.{at_drop}

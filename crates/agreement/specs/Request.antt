@@ -5,7 +5,7 @@ use Rattle.std.proofs.Common.{sym, ap, subst, ◌∙◌, append_assoc, arith}
 use Rattle.std.proofs.Math.Bool.{and-false}
 use Rattle.reader.specs.Tests.{clash}
 use Rattle.octets.specs.Class.{is_token}
-use Rattle.octets.specs.Ties.{token_is_tchar}
+use Rattle.octets.proofs.Ties.{token_is_tchar}
 use Rattle.octets.specs.Outside.{differs, differs_test, cr_no_token, lf_no_token}
 use Rattle.rules.specs.Rules.{Rules}
 use Rattle.gaps.specs.Gap.{spaces_if}

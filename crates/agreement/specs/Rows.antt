@@ -3,7 +3,7 @@
 use Rattle.std.specs.Prelude.{ℕ, List, ◌++◌}
 use Rattle.octets.specs.Grammar.{VCHAR, IsFieldVchar, IsTchar, IsBlank, IsText}
 use Rattle.octets.specs.Class.{is_blank, is_token, is_target, is_value, is_visible}
-use Rattle.octets.specs.Ties.{visible_is_VCHAR, blank_is_blank, token_is_tchar, target_is_field_vchar, value_is_text}
+use Rattle.octets.proofs.Ties.{visible_is_VCHAR, blank_is_blank, token_is_tchar, target_is_field_vchar, value_is_text}
 use Rattle.grammar.specs.Rows.{Many, none, more, Some, some}
 use Rattle.leaves.specs.Rows.{In}
 

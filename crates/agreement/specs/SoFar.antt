@@ -5,7 +5,7 @@ use Rattle.std.proofs.Common.{arith, sym, ap, subst, ◌∙◌, append_assoc, le
 use Rattle.reader.specs.Tests.{clash}
 use Rattle.exact.specs.Branch.{one}
 use Rattle.octets.specs.Class.{is_blank, is_value}
-use Rattle.octets.specs.Ties.{blank_is_blank}
+use Rattle.octets.proofs.Ties.{blank_is_blank}
 use Rattle.rules.specs.Rules.{Rules}
 use Rattle.grammar.specs.Rows.{Many, none, more}
 use Rattle.grammar.specs.Message.{IsLineEnd, IsObsFold, fold, IsAroundValue}

@@ -6,7 +6,8 @@ use Rattle.reader.specs.Seq.{first}
 use Rattle.reader.specs.Chain.{part}
 use Rattle.exact.specs.Exact.{Relation, Exact}
 use Rattle.exact.specs.Judged.{Passes, exact_judged}
-use Rattle.exact.specs.Seq.{Both, exact_seq}
+use Rattle.exact.specs.Seq.{Both}
+use Rattle.exact.proofs.Seq.{exact_seq}
 use Rattle.octets.specs.Class.{is_token}
 use Rattle.octets.specs.Outside.{space_no_token}
 use Rattle.parts.specs.declared.Fault.{Fault}

@@ -6,11 +6,11 @@ use Rattle.reader.specs.Tests.{clash, never}
 use Rattle.octets.specs.Grammar.{Range, DIGIT, VCHAR, IsObsText, IsFieldVchar, IsBlank, IsText}
 use Rattle.octets.specs.Grammar as bytes
 use Rattle.octets.specs.Class.{is_value, is_ascii}
-use Rattle.octets.specs.Ties.{in_range, range_in, above_range, digit_is_DIGIT, value_is_text}
+use Rattle.octets.proofs.Ties.{in_range, range_in, above_range, digit_is_DIGIT, value_is_text}
 use Rattle.utf8.specs.Grammar.{UTF8_octets}
 use Rattle.utf8.specs.Grammar as characters
 use Rattle.utf8.specs.Reader.{utf8}
-use Rattle.utf8.specs.Exact.{utf8_exact}
+use Rattle.utf8.proofs.Exact.{utf8_exact}
 use Rattle.rules.specs.declared.Settings.{Settings}
 use Rattle.rules.specs.Rules.{Rules, default}
 use Rattle.rules.specs.Settings.{request_rules, response_rules}

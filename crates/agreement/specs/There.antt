@@ -4,9 +4,10 @@ use Rattle.std.specs.Prelude.{ℕ, ◌+◌, ◌≤◌, ◌≡◌, refl, List, �
 use Rattle.std.proofs.Common.{arith, sym, ap, subst, ◌∙◌, length-drop, take-append-drop, length-take-le, take_at, drop_at, drop-drop}
 use Rattle.std.proofs.lemmas.List.{drop-append-le}
 use Rattle.reader.specs.Machine.{run}
-use Rattle.reader.specs.Laws.{gave_stays, refused_stays}
+use Rattle.reader.proofs.Laws.{gave_stays, refused_stays}
 use Rattle.reader.specs.Branch.{fresh}
-use Rattle.reader.specs.Answer.{Answer, got, short, bad, answer, answered, answered_bad}
+use Rattle.reader.specs.Answer.{Answer, got, short, bad, answer}
+use Rattle.reader.proofs.Answer.{answered, answered_bad}
 use Rattle.reader.specs.Chain.{nothing}
 use Rattle.reader.specs.Tests.{never}
 use Rattle.exact.specs.Branch.{one, other}

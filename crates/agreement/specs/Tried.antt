@@ -6,12 +6,13 @@ use Rattle.reader.specs.Machine.{Run, more, gave, refused, run}
 use Rattle.reader.specs.Lifted.{ran, ran_gave}
 use Rattle.reader.specs.Judged.{pass}
 use Rattle.reader.specs.Seq.{first, second}
-use Rattle.reader.specs.Rescued.{rescuing, watched, run_waiting, run_good, run_bad, run_rescued}
+use Rattle.reader.specs.Rescued.{rescuing, watched}
+use Rattle.reader.proofs.Rescued.{run_waiting, run_good, run_bad, run_rescued}
 use Rattle.reader.specs.Tests.{never}
 use Rattle.exact.specs.Exact.{Relation, Part, Exact}
 use Rattle.exact.specs.Judged.{Passes, exact_judged}
 use Rattle.octets.specs.Class.{is_blank, is_token, is_value}
-use Rattle.octets.specs.Ties.{blank_is_blank, token_is_tchar, value_is_text}
+use Rattle.octets.proofs.Ties.{blank_is_blank, token_is_tchar, value_is_text}
 use Rattle.octets.specs.Outside.{differs_test, cr_no_token, cr_no_blank, cr_no_value}
 use Rattle.rules.specs.Rules.{Rules}
 use Rattle.grammar.specs.Rows.{Many, some}

@@ -5,7 +5,7 @@ use Rattle.std.proofs.Common.{arith, sym, ap, subst, ◌∙◌, inl, inr, append
 use Rattle.std.proofs.lemmas.Bool.{false≢true}
 use Rattle.octets.specs.Grammar.{IsFieldVchar, visible, obsolete, IsText}
 use Rattle.octets.specs.Class.{among, is_blank, is_target, is_value}
-use Rattle.octets.specs.Ties.{target_is_field_vchar, value_is_text}
+use Rattle.octets.proofs.Ties.{target_is_field_vchar, value_is_text}
 use Rattle.grammar.specs.Rows.{none, more, some}
 use Rattle.grammar.specs.Fields.{OWS, IsFieldContent, IsFieldValue}
 use Rattle.grammar.specs.Fields as fields

@@ -9,11 +9,12 @@ use Rattle.reader.specs.Branch.{fresh}
 use Rattle.reader.specs.Tests.{clash, never, both_true}
 use Rattle.exact.specs.Exact.{Relation}
 use Rattle.exact.specs.Branch.{one, other}
-use Rattle.exact.specs.Refusing.{Refusing, refusing_judged, Either, early, late, refusing_seq, LapsTo, here, next}
+use Rattle.exact.specs.Refusing.{Refusing, Either, early, late, LapsTo, here, next}
+use Rattle.exact.proofs.Refusing.{refusing_judged, refusing_seq}
 use Rattle.octets.specs.Grammar.{IsTchar, IsBlank, IsText}
 use Rattle.octets.specs.Class.{is_blank, is_token, is_value}
 use Rattle.octets.specs.Outside.{cr_no_blank, lf_no_blank}
-use Rattle.octets.specs.Ties.{blank_is_blank, token_is_tchar, value_is_text}
+use Rattle.octets.proofs.Ties.{blank_is_blank, token_is_tchar, value_is_text}
 use Rattle.rules.specs.Rules.{Rules}
 use Rattle.grammar.specs.Rows.{Many, none, more, some}
 use Rattle.grammar.specs.Fields.{IsFieldName}

@@ -7,8 +7,9 @@ use Rattle.std.proofs.Math.Path.{refl}
 use Rattle.std.proofs.lemmas.Bool.{false≢true}
 use borrow.Author.Tests.{eq-eqb, ne_eqb, lt-ltb, le-ltb, ltb-true, not-true, not-false}
 use Rattle.reader.specs.Machine.{Move, keep, give, refuse, Step, run_at}
-use Rattle.reader.specs.Skip.{Skipped, skip, told_true, told_false}
-use Rattle.reader.specs.Laws.{run_in, run_out}
+use Rattle.reader.specs.Skip.{Skipped}
+use Rattle.reader.proofs.Skip.{skip, told_true, told_false}
+use Rattle.reader.proofs.Laws.{run_in, run_out}
 use Rattle.reader.specs.Answer.{Answer, got, short, bad}
 use Rattle.reader.specs.Chain.{reads}
 use Rattle.octets.specs.Class.{within, is_blank, is_digit, is_hex_digit}

@@ -3,7 +3,8 @@
 use Rattle.std.specs.Prelude.{ℕ, ◌+◌, ◌-◌, ◌≤◌, ◌<◌, ◌≡◌, List, Bool, true, length, get_or}
 use Rattle.std.proofs.Common.{arith, ap, subst, ◌∙◌}
 use Rattle.std.proofs.Math.Decide.{dec_lt}
-use Rattle.reader.specs.Skip.{Passed, Skipped, skips}
+use Rattle.reader.specs.Skip.{Passed, Skipped}
+use Rattle.reader.proofs.Skip.{skips}
 use Rattle.flags.specs.Test.{word}
 use Rattle.flags.specs.Sure.{Sure}
 

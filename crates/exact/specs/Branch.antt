@@ -4,7 +4,8 @@ use Rattle.std.specs.Prelude.{ℕ, ◌+◌, ◌≡◌, refl, List, [], ◌∷◌
 use Rattle.std.proofs.Common.{sym, ap, ◌∙◌}
 use Rattle.reader.specs.Machine.{gave, Step, run}
 use Rattle.reader.specs.Lifted.{ran, ran_gave}
-use Rattle.reader.specs.Branch.{Branch, fresh, branch, run_fresh_one, run_fresh_other}
+use Rattle.reader.specs.Branch.{Branch, fresh, branch}
+use Rattle.reader.proofs.Branch.{run_fresh_one, run_fresh_other}
 use Rattle.reader.specs.Tests.{never}
 use Rattle.exact.specs.Exact.{Relation, Part, Exact}
 

@@ -4,7 +4,8 @@ use Rattle.std.specs.Prelude.{ℕ, ◌≡◌, refl, List, ◌++◌}
 use Rattle.std.proofs.Common.{sym, ap, ◌∙◌}
 use Rattle.reader.specs.Machine.{Run, more, gave, refused, Step, run}
 use Rattle.reader.specs.Judged.{Verdict, pass, fail, judged}
-use Rattle.reader.specs.Answer.{got, answer, answered, verdict, retold, answer_judged}
+use Rattle.reader.specs.Answer.{got, answer, verdict, retold}
+use Rattle.reader.proofs.Answer.{answered, answer_judged}
 use Rattle.reader.specs.Chain.{nothing}
 use Rattle.reader.specs.Tests.{never}
 use Rattle.exact.specs.Exact.{Relation, Exact}

@@ -4,14 +4,17 @@ use Rattle.std.specs.Prelude.{ℕ, ◌+◌, ◌-◌, ◌^◌, ◌≤◌, ◌<◌
 use Rattle.std.proofs.Common.{arith, sym, ap, subst, ◌∙◌, length-drop, ne_eqb}
 use Rattle.std.proofs.Math.Decide.{dec_lt}
 use Rattle.reader.specs.Machine.{Move, keep, give, before, refuse, gave, Step, after, run, run_at}
-use Rattle.reader.specs.Laws.{run_in, run_out, gave_within}
-use Rattle.reader.specs.Skip.{told_true, told_false}
+use Rattle.reader.proofs.Laws.{run_in, run_out, gave_within}
+use Rattle.reader.proofs.Skip.{told_true, told_false}
 use Rattle.reader.specs.Judged.{pass, moved, judged}
 use Rattle.reader.specs.Seq.{Then, first, cross, seq}
 use Rattle.reader.specs.Loop.{Turn, again, done, loop, Fresh}
-use Rattle.reader.specs.Branch.{Branch, fresh, branch, branch_one, branch_other}
-use Rattle.reader.specs.Answer.{Answer, got, short, bad, answered, retold, answer_judged, and, and_same, answer_seq, rounds, answer_loop}
-use Rattle.reader.specs.Chain.{nothing, reads, ended, answer_ended}
+use Rattle.reader.specs.Branch.{Branch, fresh, branch}
+use Rattle.reader.proofs.Branch.{branch_one, branch_other}
+use Rattle.reader.specs.Answer.{Answer, got, short, bad, retold, and, rounds}
+use Rattle.reader.proofs.Answer.{answered, answer_judged, and_same, answer_seq, answer_loop}
+use Rattle.reader.specs.Chain.{nothing, reads, ended}
+use Rattle.reader.proofs.Chain.{answer_ended}
 use Rattle.reader.specs.Tests.{split, never}
 use Rattle.octets.specs.Class.{is_blank, is_value}
 use Rattle.rules.specs.Rules.{Rules, default}

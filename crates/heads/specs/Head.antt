@@ -5,7 +5,8 @@ use Rattle.std.proofs.Common.{sym, ap, ◌∙◌}
 use Rattle.reader.specs.Machine.{Step, run_at}
 use Rattle.reader.specs.Judged.{pass, judged}
 use Rattle.reader.specs.Seq.{Then, first, seq}
-use Rattle.reader.specs.Answer.{Answer, got, short, bad, answer, retold, answer_judged, and, either, answer_seq, lapwise}
+use Rattle.reader.specs.Answer.{Answer, got, short, bad, answer, retold, and, either, lapwise}
+use Rattle.reader.proofs.Answer.{answer_judged, answer_seq}
 use Rattle.gaps.specs.Gap.{Behind}
 use Rattle.parts.specs.declared.Fault.{Fault}
 use Rattle.parts.specs.declared.Passed.{Passed}

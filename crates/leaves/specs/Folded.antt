@@ -10,8 +10,10 @@ use Rattle.reader.specs.Branch.{fresh}
 use Rattle.reader.specs.Tests.{never}
 use Rattle.exact.specs.Exact.{Relation, Part, Exact}
 use Rattle.exact.specs.Judged.{Passes, exact_judged}
-use Rattle.exact.specs.Seq.{Both, exact_seq}
-use Rattle.exact.specs.Loop.{Laps, exact_loop}
+use Rattle.exact.specs.Seq.{Both}
+use Rattle.exact.proofs.Seq.{exact_seq}
+use Rattle.exact.specs.Loop.{Laps}
+use Rattle.exact.proofs.Loop.{exact_loop}
 use Rattle.exact.specs.Branch.{Forks, exact_branch}
 use Rattle.octets.specs.Class.{is_blank}
 use Rattle.rules.specs.Rules.{Rules}

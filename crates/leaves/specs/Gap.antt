@@ -7,8 +7,10 @@ use Rattle.reader.specs.Seq.{first}
 use Rattle.reader.specs.Skip.{Skipped}
 use Rattle.reader.specs.Tests.{split, never}
 use Rattle.exact.specs.Exact.{Relation, Part, Exact}
-use Rattle.exact.specs.Seq.{Both, exact_seq}
-use Rattle.gaps.specs.Gap.{gap_step, behind_gap, gap_length, end_skipped}
+use Rattle.exact.specs.Seq.{Both}
+use Rattle.exact.proofs.Seq.{exact_seq}
+use Rattle.gaps.specs.Gap.{gap_step, behind_gap, gap_length}
+use Rattle.gaps.proofs.Gap.{end_skipped}
 use Rattle.grammar.specs.Rows.{Many, none, more}
 use Rattle.leaves.specs.Rows.{In, over}
 

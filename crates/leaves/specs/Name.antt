@@ -8,7 +8,8 @@ use Rattle.reader.specs.Seq.{first}
 use Rattle.reader.specs.Tests.{split, never}
 use Rattle.exact.specs.Exact.{Relation, Part, Exact}
 use Rattle.exact.specs.Judged.{Passes, exact_judged}
-use Rattle.exact.specs.Seq.{Both, exact_seq}
+use Rattle.exact.specs.Seq.{Both}
+use Rattle.exact.proofs.Seq.{exact_seq}
 use Rattle.octets.specs.Class.{is_token}
 use Rattle.rules.specs.Rules.{Rules}
 use Rattle.parts.specs.declared.Error.TheVariants.{HeaderName}

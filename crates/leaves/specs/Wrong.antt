@@ -10,7 +10,8 @@ use Rattle.reader.specs.Refusals.{Refusal, Refuses}
 use Rattle.reader.specs.Tests.{split, never}
 use Rattle.exact.specs.Exact.{Relation, Part}
 use Rattle.exact.specs.Branch.{Forks}
-use Rattle.exact.specs.Refusing.{Refusing, Never, refusing_never, refusing_judged, Either, refusing_seq, refusing_branch, LapsTo, refusing_loop}
+use Rattle.exact.specs.Refusing.{Refusing, Never, Either, LapsTo}
+use Rattle.exact.proofs.Refusing.{refusing_never, refusing_judged, refusing_seq, refusing_branch, refusing_loop}
 use Rattle.octets.specs.Class.{is_blank, is_token, is_value}
 use Rattle.rules.specs.Rules.{Rules}
 use Rattle.parts.specs.declared.Error.{Error}

@@ -7,7 +7,7 @@ use Rattle.std.proofs.lemmas.Bool.{false≢true}
 use Rattle.reader.specs.Tests.{both_true}
 use Rattle.octets.specs.Grammar as bytes
 use Rattle.octets.specs.Class.{within, is_token, is_target, is_value}
-use Rattle.octets.specs.Ties.{in_range, target_is_field_vchar}
+use Rattle.octets.proofs.Ties.{in_range, target_is_field_vchar}
 use Rattle.rules.specs.Rules.{Rules, strict}
 use Rattle.grammar.specs.Rows.{Many, none, more, Some, some}
 use Rattle.grammar.specs.Fields.{IsToken, IsFieldValue, Field}

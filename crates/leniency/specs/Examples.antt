@@ -6,7 +6,7 @@ use Rattle.std.proofs.Common.{arith}
 use Rattle.std.proofs.lemmas.Bool.{false≢true}
 use Rattle.octets.specs.Class.{among, within, is_digit, is_blank, is_token, is_target, is_value}
 use Rattle.octets.specs.Grammar as bytes
-use Rattle.octets.specs.Ties.{in_range}
+use Rattle.octets.proofs.Ties.{in_range}
 use Rattle.rules.specs.Rules.{strict}
 use Rattle.grammar.specs.Rows.{none, more, some}
 use Rattle.grammar.specs.Fields.{Field}

@@ -13,9 +13,6 @@ pub mod Real
 pub mod Shapes
 pub mod Lines
 pub mod RealHeads
-pub mod RealSpaces
 pub mod RealIgnored
 pub mod Readings
-pub mod Needed
 pub mod Shortest
-pub mod RealChunks

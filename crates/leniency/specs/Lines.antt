@@ -6,7 +6,7 @@ use Rattle.std.proofs.lemmas.Bool.{eqb-false}
 use Rattle.octets.specs.Grammar.{IsTchar, IsBlank, IsText}
 use Rattle.octets.specs.Grammar as bytes
 use Rattle.octets.specs.Class.{among, within, is_digit, is_blank, is_token}
-use Rattle.octets.specs.Ties.{in_range, blank_is_blank, token_is_tchar}
+use Rattle.octets.proofs.Ties.{in_range, blank_is_blank, token_is_tchar}
 use Rattle.octets.specs.Outside.{differs, cr_no_token, lf_no_token, space_no_token, cr_no_blank, lf_no_blank, colon_no_blank}
 use Rattle.rules.specs.Rules.{Rules}
 use Rattle.grammar.specs.Rows.{Many, none, more, Some, some}

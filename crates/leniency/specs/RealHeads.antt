@@ -7,7 +7,7 @@ use Rattle.reader.specs.Tests.{clash, never}
 use Rattle.octets.specs.Grammar.{DIGIT}
 use Rattle.octets.specs.Grammar as bytes
 use Rattle.octets.specs.Class.{within, is_blank, is_token}
-use Rattle.octets.specs.Ties.{in_range, blank_is_blank, token_is_tchar}
+use Rattle.octets.proofs.Ties.{in_range, blank_is_blank, token_is_tchar}
 use Rattle.octets.specs.Outside.{differs, cr_no_blank, space_no_token}
 use Rattle.utf8.specs.Grammar as characters
 use Rattle.rules.specs.Rules.{Rules}

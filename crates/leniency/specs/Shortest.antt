@@ -13,7 +13,7 @@ use Rattle.lengths.specs.Lengths.{ends_long, block_long}
 use Rattle.agreement.specs.Rows.{many_append}
 use Rattle.agreement.specs.Tail.{line_parts}
 use Rattle.plain.specs.Plain.{one_line, OneLine}
-use Rattle.plain.specs.OneLine.{texts_no_end, value_one_line}
+use Rattle.plain.proofs.OneLine.{texts_no_end, value_one_line}
 use Rattle.leniency.specs.Text.{ascii}
 
 -- what stands within a value is text, or has a fold in it

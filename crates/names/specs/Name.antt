@@ -5,12 +5,16 @@ use Rattle.std.proofs.Common.{arith, sym, ap, ◌∙◌}
 use Rattle.reader.specs.Machine.{keep, before, give, refuse, Step, run_at}
 use Rattle.reader.specs.Judged.{pass, judged}
 use Rattle.reader.specs.Seq.{Then, first, seq}
-use Rattle.reader.specs.Skip.{Skipped, skip}
-use Rattle.reader.specs.Laws.{run_in, run_out}
-use Rattle.reader.specs.Answer.{Answer, got, short, bad, and, and_same, answer_seq}
-use Rattle.reader.specs.Chain.{nothing, reads, ended, answer_ended}
+use Rattle.reader.specs.Skip.{Skipped}
+use Rattle.reader.proofs.Skip.{skip}
+use Rattle.reader.proofs.Laws.{run_in, run_out}
+use Rattle.reader.specs.Answer.{Answer, got, short, bad, and}
+use Rattle.reader.proofs.Answer.{and_same, answer_seq}
+use Rattle.reader.specs.Chain.{nothing, reads, ended}
+use Rattle.reader.proofs.Chain.{answer_ended}
 use Rattle.octets.specs.Class.{is_token}
-use Rattle.gaps.specs.Gap.{Behind, blanks_if, behind_gap, reads_behind}
+use Rattle.gaps.specs.Gap.{Behind, blanks_if, behind_gap}
+use Rattle.gaps.proofs.Gap.{reads_behind}
 use Rattle.rules.specs.Rules.{Rules}
 use Rattle.parts.specs.declared.Error.TheVariants.{HeaderName}
 use Rattle.parts.specs.declared.Fault.{Fault}

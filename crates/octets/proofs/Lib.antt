@@ -1,2 +1,3 @@
 pub mod Tests
 pub mod Examples
+pub mod Ties

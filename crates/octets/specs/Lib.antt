@@ -1,5 +1,4 @@
 pub mod Grammar
 pub mod Class
 pub mod Table
-pub mod Ties
 pub mod Outside

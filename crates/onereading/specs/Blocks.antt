@@ -10,14 +10,18 @@ use Rattle.reader.specs.Chain.{nothing}
 use Rattle.reader.specs.Branch.{fresh}
 use Rattle.reader.specs.Seq.{first}
 use Rattle.reader.specs.Tests.{split}
-use Rattle.reader.specs.Later.{Later, same, waited, later}
+use Rattle.reader.specs.Later.{Later, same, waited}
+use Rattle.reader.proofs.Later.{later}
 use Rattle.rules.specs.Rules.{Rules}
 use Rattle.parts.specs.declared.Fault.{Fault}
 use Rattle.fields.specs.declared.Header.{Header}
-use Rattle.gaps.specs.Gap.{gap_end, end_skipped, reads_behind}
-use Rattle.fields.specs.Line.{Kind, header, end, ignored, line_step, line_behind}
+use Rattle.gaps.specs.Gap.{gap_end}
+use Rattle.gaps.proofs.Gap.{end_skipped, reads_behind}
+use Rattle.fields.specs.Line.{Kind, header, end, ignored, line_step}
+use Rattle.fields.proofs.LineRead.{line_behind}
 use Rattle.blocks.specs.Slots.{numbers, flat, filled, length_flat}
-use Rattle.blocks.specs.Block.{taken, blanks_before, next_line_step, next_line, block, block_next, given}
+use Rattle.blocks.specs.Block.{taken, blanks_before, next_line_step, next_line, block, given}
+use Rattle.blocks.proofs.BlockRead.{block_next}
 use Rattle.agreement.specs.Fields.{given_all}
 
 -- all begins with these

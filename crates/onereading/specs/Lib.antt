@@ -1,12 +1,6 @@
 pub mod Statements
 pub mod Lines
 pub mod Blocks
-pub mod Stays
-pub mod Where
-pub mod SoFar
-pub mod MoreSlots
-pub mod Derivation
 pub mod Ignored
 pub mod Rows
-pub mod RowsStay
 pub mod RoundTrip

@@ -5,7 +5,7 @@ use Rattle.std.proofs.Common.{subst}
 use Rattle.reader.specs.Seq.{first}
 use Rattle.reader.specs.Chain.{nothing, reads}
 use Rattle.reader.specs.Known.{known_of}
-use Rattle.reader.specs.Later.{later, last_keeps, last_grows, chain_keeps, chain_grows}
+use Rattle.reader.proofs.Later.{later, last_keeps, last_grows, chain_keeps, chain_grows}
 use Rattle.octets.specs.Class.{is_token}
 use Rattle.rules.specs.Rules.{Rules}
 use Rattle.parts.specs.declared.Error.TheVariants.{NewLine, Token, Version}

@@ -3,7 +3,7 @@
 use Rattle.std.specs.Prelude.{ℕ, ◌+◌, ◌≤◌, ◌<◌, ◌≡◌, refl, List, Bool, ◌&&◌, cond, eqb, length, get_or}
 use Rattle.std.proofs.Common.{ne_eqb}
 use Rattle.reader.specs.Machine.{keep, before, refuse, Step, run_at}
-use Rattle.reader.specs.Laws.{run_in, run_out}
+use Rattle.reader.proofs.Laws.{run_in, run_out}
 use Rattle.reader.specs.Answer.{Answer, got, short, bad}
 use Rattle.reader.specs.Chain.{reads}
 use Rattle.parts.specs.declared.Error.TheVariants.{NewLine}

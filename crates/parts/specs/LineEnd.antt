@@ -3,9 +3,10 @@
 use Rattle.std.specs.Prelude.{ℕ, ◌+◌, ◌≤◌, ◌<◌, ◌≡◌, List, Bool, ◌&&◌, cond, eqb, length, get_or}
 use Rattle.std.proofs.Common.{ne_eqb}
 use Rattle.reader.specs.Machine.{keep, give, refuse, Step}
-use Rattle.reader.specs.Laws.{run_in, run_out}
+use Rattle.reader.proofs.Laws.{run_in, run_out}
 use Rattle.reader.specs.Answer.{Answer, got, short, bad}
-use Rattle.reader.specs.Chain.{reads, reads_none}
+use Rattle.reader.specs.Chain.{reads}
+use Rattle.reader.proofs.Chain.{reads_none}
 use Rattle.parts.specs.declared.Error.{Error}
 use Rattle.parts.specs.declared.Fault.{Fault}
 use Rattle.rules.specs.Rules.{Rules, default}

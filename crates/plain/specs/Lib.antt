@@ -1,4 +1,2 @@
 pub mod Plain
-pub mod OneLine
-pub mod Derived
 pub mod Short

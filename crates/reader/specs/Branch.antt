@@ -1,12 +1,8 @@
 -- One of two machines, by the first byte.
 -- Assumes nothing.
-use Rattle.std.specs.Prelude.{◌≡◌, refl, List, ◌∷◌, Bool, true, false, cond, ℕ, ◌+◌, ◌≤◌, ◌<◌, length, get_or, drop}
-use Rattle.std.proofs.Common.{ap, ◌∙◌}
-use Rattle.reader.specs.Machine.{Step, run, run_at}
-use Rattle.reader.specs.Bytes.{drop_in}
-use Rattle.reader.specs.Laws.{run_out}
-use Rattle.reader.specs.Lifted.{lifted, ran, run_entered}
-use Rattle.reader.specs.Answer.{short, answer, answer_ran}
+use Rattle.std.specs.Prelude.{Bool, cond, ℕ}
+use Rattle.reader.specs.Machine.{Step}
+use Rattle.reader.specs.Lifted.{lifted}
 
 -- before the first byte, or in one of the two
 pub data Branch (S T : Type 0) : Type 0 where
@@ -19,20 +15,3 @@ module _ {S T A F : Type 0} (test : ℕ → Bool) (m : Step S A F) (s₀ : S) (n
   branch fresh p b = cond (test b) (lifted one (m s₀ p b)) (lifted other (n t₀ p b))
   branch (one s) p b = lifted one (m s p b)
   branch (other t) p b = lifted other (n t p b)
-
-  -- the first byte decides
-  pub run_fresh_one : (b : ℕ) (bs : List ℕ) (p : ℕ) → test b ≡ true → run branch fresh p (b ∷ bs) ≡ ran one (run m s₀ p (b ∷ bs))
-  run_fresh_one b bs p e = run_entered one m branch (λ s p b. refl) fresh s₀ b bs p (rw e)
-
-  pub run_fresh_other : (b : ℕ) (bs : List ℕ) (p : ℕ) → test b ≡ false → run branch fresh p (b ∷ bs) ≡ ran other (run n t₀ p (b ∷ bs))
-  run_fresh_other b bs p e = run_entered other n branch (λ t p b. refl) fresh t₀ b bs p (rw e)
-
-  module _ {U : Type 0} (known : Branch S T → U) (xs : List ℕ) (i : ℕ) where
-    pub branch_one : i < length xs → test (get_or xs i 0) ≡ true → answer known (run_at branch fresh xs i) ≡ answer (λ s. known (one s)) (run_at m s₀ xs i)
-    branch_one h e = rw (drop_in xs i h) (ap (answer known) (run_fresh_one (get_or xs i 0) (drop (i + 1) xs) i e) ∙ answer_ran one known (run m s₀ i (get_or xs i 0 ∷ drop (i + 1) xs)))
-
-    pub branch_other : i < length xs → test (get_or xs i 0) ≡ false → answer known (run_at branch fresh xs i) ≡ answer (λ t. known (other t)) (run_at n t₀ xs i)
-    branch_other h e = rw (drop_in xs i h) (ap (answer known) (run_fresh_other (get_or xs i 0) (drop (i + 1) xs) i e) ∙ answer_ran other known (run n t₀ i (get_or xs i 0 ∷ drop (i + 1) xs)))
-
-    pub branch_none : length xs ≤ i → answer known (run_at branch fresh xs i) ≡ short (known fresh)
-    branch_none h = ap (answer known) (run_out branch fresh xs i h)

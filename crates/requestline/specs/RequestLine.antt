@@ -6,9 +6,11 @@ use Rattle.reader.specs.Machine.{Step, run_at}
 use Rattle.reader.specs.Seq.{Then, first, seq}
 use Rattle.reader.specs.Skip.{Skipped}
 use Rattle.reader.specs.Answer.{Answer, answer, either}
-use Rattle.reader.specs.Chain.{reads, part, last, chain, chain_same, answer_last, answer_chain}
+use Rattle.reader.specs.Chain.{reads, part, last, chain}
+use Rattle.reader.proofs.Chain.{chain_same, answer_last, answer_chain}
 use Rattle.octets.specs.Class.{is_token}
-use Rattle.gaps.specs.Gap.{Behind, spaces_if, behind_gap, reads_behind}
+use Rattle.gaps.specs.Gap.{Behind, spaces_if, behind_gap}
+use Rattle.gaps.proofs.Gap.{reads_behind}
 use Rattle.parts.specs.declared.Fault.{Fault}
 use Rattle.parts.specs.declared.Error.TheVariants.{NewLine, Token}
 use Rattle.parts.specs.declared.Piece.{Piece}

@@ -2,10 +2,11 @@
 -- Assumes nothing.
 use Rattle.std.specs.Prelude.{ℕ, ◌+◌, ◌-◌, ◌*◌, ◌≤◌, ◌<◌, ◌≡◌, List, true, false, cond, length, get_or}
 use Rattle.reader.specs.Machine.{keep, give, refuse, Step}
-use Rattle.reader.specs.Skip.{told_true, told_false}
-use Rattle.reader.specs.Laws.{run_in, run_out}
+use Rattle.reader.proofs.Skip.{told_true, told_false}
+use Rattle.reader.proofs.Laws.{run_in, run_out}
 use Rattle.reader.specs.Answer.{Answer, got, short, bad}
-use Rattle.reader.specs.Chain.{reads, reads_none}
+use Rattle.reader.specs.Chain.{reads}
+use Rattle.reader.proofs.Chain.{reads_none}
 use Rattle.octets.specs.Class.{is_digit}
 use Rattle.parts.specs.declared.Error.TheVariants.{Status}
 use Rattle.parts.specs.declared.Fault.{Fault}

@@ -4,10 +4,12 @@ use Rattle.std.specs.Prelude.{ℕ, ◌+◌, ◌≤◌, ◌<◌, ◌≡◌, List,
 use Rattle.std.proofs.Math.Decide.{dec_lt}
 use Rattle.std.proofs.Common.{arith, sym, ap, ◌∙◌, length-take-le, get_or-take}
 use Rattle.reader.specs.Machine.{keep, before, Step, run_at}
-use Rattle.reader.specs.Skip.{Passed, Skipped, passed_part, skip}
-use Rattle.reader.specs.Laws.{run_in, run_out}
+use Rattle.reader.specs.Skip.{Passed, Skipped}
+use Rattle.reader.proofs.Skip.{passed_part, skip}
+use Rattle.reader.proofs.Laws.{run_in, run_out}
 use Rattle.reader.specs.Answer.{Answer, got, short}
-use Rattle.reader.specs.Chain.{reads, reads_out}
+use Rattle.reader.specs.Chain.{reads}
+use Rattle.reader.proofs.Chain.{reads_out}
 use Rattle.reader.specs.Tests.{both_true}
 use Rattle.octets.specs.Class.{is_value, is_ascii}
 use Rattle.parts.specs.declared.Fault.{Fault}

@@ -6,10 +6,13 @@ use Rattle.reader.specs.Machine.{Step, run_at}
 use Rattle.reader.specs.Judged.{pass, judged}
 use Rattle.reader.specs.Seq.{Then, first, seq}
 use Rattle.reader.specs.Skip.{Skipped}
-use Rattle.reader.specs.Answer.{Answer, answer, and, and_same, answer_seq, either}
-use Rattle.reader.specs.Chain.{nothing, reads, ended, answer_ended, part, last, chain, chain_same, answer_last, answer_chain}
+use Rattle.reader.specs.Answer.{Answer, answer, and, either}
+use Rattle.reader.proofs.Answer.{and_same, answer_seq}
+use Rattle.reader.specs.Chain.{nothing, reads, ended, part, last, chain}
+use Rattle.reader.proofs.Chain.{answer_ended, chain_same, answer_last, answer_chain}
 use Rattle.gaps.specs.Gap as gaps
-use Rattle.gaps.specs.Gap.{spaces_if, behind_gap, reads_behind}
+use Rattle.gaps.specs.Gap.{spaces_if, behind_gap}
+use Rattle.gaps.proofs.Gap.{reads_behind}
 use Rattle.parts.specs.declared.Fault.{Fault}
 use Rattle.parts.specs.declared.Error.TheVariants.{Status, Version}
 use Rattle.parts.specs.declared.Piece.{Piece}

@@ -9,8 +9,9 @@ use lib.Dec.{eqb}
 use borrow.Author.Tests.{ne_eqb}
 use lib.ListN.{length, get_or, replicate}
 use Rattle.reader.specs.Machine.{keep, refuse, more, run_at}
-use Rattle.reader.specs.Laws.{run_in, run_out}
-use Rattle.reader.specs.Skip.{Skipped, skip}
+use Rattle.reader.proofs.Laws.{run_in, run_out}
+use Rattle.reader.specs.Skip.{Skipped}
+use Rattle.reader.proofs.Skip.{skip}
 use Rattle.octets.specs.Class.{within, is_ascii}
 use Rattle.utf8.specs.declared.Awaited.{Awaited}
 use Rattle.utf8.specs.declared.Moved.{Moved}

@@ -1,1 +1,2 @@
 pub mod Come
+pub mod Exact

@@ -2,4 +2,3 @@ pub mod Grammar
 pub mod Reader
 pub mod Values
 pub mod Rows
-pub mod Exact

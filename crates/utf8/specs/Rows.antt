@@ -5,7 +5,7 @@ use native.Mathlib.Omega.{arith}
 use borrow.Author.Tests.{ne_eqb}
 use Rattle.reader.specs.Machine.{keep, refuse}
 use Rattle.octets.specs.Class.{within}
-use Rattle.octets.specs.Ties.{in_range, above_range, range_in}
+use Rattle.octets.proofs.Ties.{in_range, above_range, range_in}
 use Rattle.utf8.specs.Reader.{tail, lead}
 
 module _ (b : ℕ) where

@@ -3,7 +3,7 @@
 use Rattle.std.specs.Prelude.{ℕ, ◌-◌, ◌≤◌, ◌<◌, ◌≡◌, List, true, false, get_or}
 use Rattle.std.proofs.Common.{arith}
 use Rattle.std.proofs.Math.Decide.{dec_lt}
-use Rattle.reader.specs.Skip.{told_true, told_false}
+use Rattle.reader.proofs.Skip.{told_true, told_false}
 use Rattle.octets.specs.Class.{is_blank}
 
 -- all from t up to end is blank

@@ -5,10 +5,12 @@ use Rattle.std.proofs.Common.{arith, sym, ◌∙◌}
 use Rattle.std.proofs.Math.Decide.{dec_lt}
 use Rattle.std.proofs.lemmas.Bool.{false≢true}
 use Rattle.reader.specs.Machine.{keep, before, Step, run_at}
-use Rattle.reader.specs.Skip.{Passed, Skipped, skip}
-use Rattle.reader.specs.Laws.{run_in, run_out}
+use Rattle.reader.specs.Skip.{Passed, Skipped}
+use Rattle.reader.proofs.Skip.{skip}
+use Rattle.reader.proofs.Laws.{run_in, run_out}
 use Rattle.reader.specs.Answer.{Answer, got, short}
-use Rattle.reader.specs.Chain.{reads, reads_out}
+use Rattle.reader.specs.Chain.{reads}
+use Rattle.reader.proofs.Chain.{reads_out}
 use Rattle.octets.specs.Class.{is_blank, is_value}
 use Rattle.parts.specs.declared.Fault.{Fault}
 use Rattle.parts.specs.declared.Piece.{Piece}

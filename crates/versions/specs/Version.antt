@@ -4,7 +4,7 @@ use Rattle.std.specs.Prelude.{ℕ, ◌+◌, ◌≤◌, ◌<◌, ◌≡◌, refl,
 use Rattle.std.proofs.Common.{arith, eq-eqb, ne_eqb}
 use Rattle.reader.specs.Machine.{keep, give, refuse, Step, run_at}
 use Rattle.reader.specs.Bytes.{drop_in}
-use Rattle.reader.specs.Laws.{run_in, run_out}
+use Rattle.reader.proofs.Laws.{run_in, run_out}
 use Rattle.reader.specs.Answer.{Answer, got, short, bad}
 use Rattle.reader.specs.Chain.{reads}
 use Rattle.parts.specs.declared.Error.TheVariants.{Version}

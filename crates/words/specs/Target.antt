@@ -8,8 +8,10 @@ use Rattle.std.proofs.Math.ListN.{length}
 use borrow.Author.Tests.{eq-eqb, ne_eqb}
 use Rattle.reader.specs.Machine.{Move, keep, give, before, refuse, Run, more, gave, refused, Step, after, run, run_at}
 use Rattle.reader.specs.Bytes.{drop_in}
-use Rattle.reader.specs.Skip.{Skipped, told_true, told_false}
-use Rattle.reader.specs.Laws.{run_in, run_out, resume}
+use Rattle.reader.specs.Skip.{Skipped}
+use Rattle.reader.proofs.Skip.{told_true, told_false}
+use Rattle.reader.specs.Laws.{resume}
+use Rattle.reader.proofs.Laws.{run_in, run_out}
 use Rattle.reader.specs.Answer.{Answer, got, short, bad}
 use Rattle.reader.specs.Chain.{reads}
 use Rattle.octets.specs.Class.{is_target, is_visible}

@@ -3,8 +3,9 @@
 use Rattle.std.specs.Prelude.{ℕ, ◌+◌, ◌≤◌, ◌<◌, ◌≡◌, List, Bool, true, false, cond, eqb, length, get_or}
 use Rattle.std.proofs.Common.{arith, eq-eqb, ne_eqb}
 use Rattle.reader.specs.Machine.{keep, give, refuse, Step, run_at}
-use Rattle.reader.specs.Skip.{Skipped, skip, told_true, told_false}
-use Rattle.reader.specs.Laws.{run_in, run_out}
+use Rattle.reader.specs.Skip.{Skipped}
+use Rattle.reader.proofs.Skip.{skip, told_true, told_false}
+use Rattle.reader.proofs.Laws.{run_in, run_out}
 use Rattle.reader.specs.Answer.{Answer, got, short, bad}
 use Rattle.reader.specs.Chain.{reads}
 use Rattle.parts.specs.declared.Error.{Error}

@@ -3,7 +3,8 @@
 use Prim.Native.Nat.{◌-◌}
 use borrow.Author.Rules.{rules}
 use lib.ListN.{length}
-use Rattle.blocks.specs.Block.{Kept, kept_more, kept_ignored, blocks, lessens}
+use Rattle.blocks.specs.Block.{Kept}
+use Rattle.blocks.proofs.BlockRead.{kept_more, kept_ignored, blocks, lessens}
 use Rattle.blocks.proofs.header_block.Statement.{statement}
 use Rattle.blocks.proofs.header_block.Tie as tie
 

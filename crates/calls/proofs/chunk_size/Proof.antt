@@ -1,7 +1,7 @@
 -- The call tells what an exact reader answers, and so keeps its promises.
 -- Assumes nothing.
 use borrow.Author.Rules.{rules}
-use Rattle.agreement.specs.Chunk.{chunk_promise, chunk_fault_promise}
+use Rattle.agreement.proofs.Chunk.{chunk_promise, chunk_fault_promise}
 use Rattle.calls.proofs.chunk_size.Statement.{statement}
 use Rattle.calls.proofs.chunk_size.Tie as tie
 

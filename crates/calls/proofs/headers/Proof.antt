@@ -1,7 +1,7 @@
 -- The call tells what an exact reader answers, and so keeps its promises.
 -- Assumes nothing.
 use borrow.Author.Rules.{rules}
-use Rattle.agreement.specs.Calls.{headers_promise, headers_fault}
+use Rattle.agreement.proofs.Calls.{headers_promise, headers_fault}
 use Rattle.calls.proofs.headers.Statement.{statement}
 use Rattle.calls.proofs.headers.Tie as tie
 

@@ -3,7 +3,7 @@
 use borrow.Author.Rules.{rules}
 use Rattle.rules.specs.Settings.{request_rules}
 use Rattle.agreement.specs.Starts.{request_fixed}
-use Rattle.agreement.specs.Calls.{request_promise, request_fault}
+use Rattle.agreement.proofs.Calls.{request_promise, request_fault}
 use Rattle.calls.proofs.request.Statement.{statement}
 use Rattle.calls.proofs.request.Tie as tie
 

@@ -3,7 +3,7 @@
 use borrow.Author.Rules.{rules}
 use Rattle.rules.specs.Settings.{response_rules}
 use Rattle.agreement.specs.Starts.{response_fixed}
-use Rattle.agreement.specs.Calls.{response_promise, response_fault}
+use Rattle.agreement.proofs.Calls.{response_promise, response_fault}
 use Rattle.calls.proofs.response.Statement.{statement}
 use Rattle.calls.proofs.response.Tie as tie
 

@@ -3,7 +3,8 @@
 use Prim.Native.Nat.{◌-◌}
 use borrow.Author.Rules.{rules}
 use lib.ListN.{length}
-use Rattle.reader.specs.Skip.{Passed, skips}
+use Rattle.reader.specs.Skip.{Passed}
+use Rattle.reader.proofs.Skip.{skips}
 use Rattle.chunks.specs.Chunk.{is_extension, extension_byte, extension_stop}
 use Rattle.chunks.proofs.skip_extension.Statement.{statement}
 use Rattle.chunks.proofs.skip_extension.Tie as tie

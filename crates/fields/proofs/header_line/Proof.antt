@@ -1,7 +1,7 @@
 -- `fields::header_line` meets its contract: the first byte decides, and what is wrong in a line is its error or passed over with it, as the settings say.
 -- Assumes nothing.
 use borrow.Author.Rules.{rules}
-use Rattle.fields.specs.Line.{fields}
+use Rattle.fields.proofs.LineRead.{fields}
 use Rattle.fields.proofs.header_line.Statement.{statement}
 use Rattle.fields.proofs.header_line.Tie as tie
 

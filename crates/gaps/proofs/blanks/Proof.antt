@@ -1,7 +1,7 @@
 -- `gaps::blanks` meets its contract: where blanks are allowed they are skipped, and where they are not the class is empty.
 -- Assumes nothing.
 use borrow.Author.Rules.{rules}
-use Rattle.gaps.specs.Gap.{gaps}
+use Rattle.gaps.proofs.Gap.{gaps}
 use Rattle.gaps.proofs.blanks.Statement.{statement}
 use Rattle.gaps.proofs.blanks.Tie as tie
 

@@ -4,7 +4,8 @@ use Prim.Native.Nat.{◌-◌}
 use borrow.Author.Rules.{rules}
 use lib.ListN.{length}
 use Rattle.reader.specs.Skip.{Passed}
-use Rattle.gaps.specs.Gap.{is_space, gaps}
+use Rattle.gaps.specs.Gap.{is_space}
+use Rattle.gaps.proofs.Gap.{gaps}
 use Rattle.gaps.proofs.skip_space.Statement.{statement}
 use Rattle.gaps.proofs.skip_space.Tie as tie
 

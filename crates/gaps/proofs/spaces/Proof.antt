@@ -1,7 +1,7 @@
 -- `gaps::spaces` meets its contract: where spaces are allowed they are skipped, and where they are not the class is empty.
 -- Assumes nothing.
 use borrow.Author.Rules.{rules}
-use Rattle.gaps.specs.Gap.{gaps}
+use Rattle.gaps.proofs.Gap.{gaps}
 use Rattle.gaps.proofs.spaces.Statement.{statement}
 use Rattle.gaps.proofs.spaces.Tie as tie
 

@@ -1,7 +1,7 @@
 -- `ignored::rest` meets its contract: from where the line's end begins it is read as any line's end is.
 -- Assumes nothing.
 use borrow.Author.Rules.{rules}
-use Rattle.ignored.specs.Rest.{rests}
+use Rattle.ignored.proofs.RestOfLine.{rests}
 use Rattle.ignored.proofs.rest.Statement.{statement}
 use Rattle.ignored.proofs.rest.Tie as tie
 

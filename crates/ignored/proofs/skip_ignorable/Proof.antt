@@ -4,7 +4,8 @@ use Prim.Native.Nat.{◌-◌}
 use borrow.Author.Rules.{rules}
 use lib.ListN.{length}
 use Rattle.reader.specs.Skip.{Passed}
-use Rattle.ignored.specs.Rest.{is_ignorable, skips}
+use Rattle.ignored.specs.Rest.{is_ignorable}
+use Rattle.ignored.proofs.RestOfLine.{skips}
 use Rattle.ignored.proofs.skip_ignorable.Statement.{statement}
 use Rattle.ignored.proofs.skip_ignorable.Tie as tie
 

@@ -1,7 +1,7 @@
 -- `ignored::start` meets its contract: the byte before the wrong one is the CR of the line's end, or what is passed over goes on to it.
 -- Assumes nothing.
 use borrow.Author.Rules.{rules}
-use Rattle.ignored.specs.Rest.{rests}
+use Rattle.ignored.proofs.RestOfLine.{rests}
 use Rattle.ignored.proofs.start.Statement.{statement}
 use Rattle.ignored.proofs.start.Tie as tie
 

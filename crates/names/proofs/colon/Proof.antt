@@ -1,7 +1,7 @@
 -- `names::colon` meets its contract: where the blanks that are allowed end there is the end of the input, the colon, or a byte that is wrong.
 -- Assumes nothing.
 use borrow.Author.Rules.{rules}
-use Rattle.names.specs.Colon.{behind}
+use Rattle.names.proofs.ToColon.{behind}
 use Rattle.names.proofs.colon.Statement.{statement}
 use Rattle.names.proofs.colon.Tie as tie
 

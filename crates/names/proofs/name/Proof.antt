@@ -1,7 +1,7 @@
 -- `names::name` meets its contract: token bytes, and behind them what `colon` finds, are a name; the end of the input asks for more, and any other byte is the error.
 -- Assumes nothing.
 use borrow.Author.Rules.{rules}
-use Rattle.names.specs.Colon.{names}
+use Rattle.names.proofs.ToColon.{names}
 use Rattle.names.proofs.name.Statement.{statement}
 use Rattle.names.proofs.name.Tie as tie
 

@@ -1,7 +1,7 @@
 -- `restate::headers` meets its contract: a call's promise and a writer's, over the same bytes and slots.
 -- Assumes nothing.
 use borrow.Author.Rules.{rules}
-use Rattle.restate.specs.Restated.{restated_headers}
+use Rattle.restate.proofs.Restated.{restated_headers}
 use Rattle.restate.proofs.headers.Statement.{statement}
 use Rattle.restate.proofs.headers.Tie as tie
 

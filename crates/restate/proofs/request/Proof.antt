@@ -1,7 +1,7 @@
 -- `restate::request` meets its contract: a call's promise and a writer's, over the same bytes and slots.
 -- Assumes nothing.
 use borrow.Author.Rules.{rules}
-use Rattle.restate.specs.Restated.{restated_request}
+use Rattle.restate.proofs.Restated.{restated_request}
 use Rattle.restate.proofs.request.Statement.{statement}
 use Rattle.restate.proofs.request.Tie as tie
 

@@ -1,7 +1,7 @@
 -- `restate::response` meets its contract: a call's promise and a writer's, over the same bytes and slots.
 -- Assumes nothing.
 use borrow.Author.Rules.{rules}
-use Rattle.restate.specs.Restated.{restated_response}
+use Rattle.restate.proofs.Restated.{restated_response}
 use Rattle.restate.proofs.response.Statement.{statement}
 use Rattle.restate.proofs.response.Tie as tie
 

@@ -1,7 +1,7 @@
 -- `restate::restate` meets its contract: each kind of head has a function of its own, and a chunk size line has no plain form.
 -- Assumes nothing.
 use borrow.Author.Rules.{rules}
-use Rattle.restate.specs.Restated.{restatements}
+use Rattle.restate.proofs.Restated.{restatements}
 use Rattle.restate.proofs.restate.Statement.{statement}
 use Rattle.restate.proofs.restate.Tie as tie
 

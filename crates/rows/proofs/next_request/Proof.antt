@@ -1,7 +1,7 @@
 -- `rows::next_request` meets its contract: the call's promise, of what stands behind the position.
 -- Assumes nothing.
 use borrow.Author.Rules.{rules}
-use Rattle.rowread.specs.Reading.{next_request, used_request}
+use Rattle.rowread.proofs.Reading.{next_request, used_request}
 use Rattle.rows.proofs.next_request.Statement.{statement}
 use Rattle.rows.proofs.next_request.Tie as tie
 

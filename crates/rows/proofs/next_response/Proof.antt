@@ -1,7 +1,7 @@
 -- `rows::next_response` meets its contract: the call's promise, of what stands behind the position.
 -- Assumes nothing.
 use borrow.Author.Rules.{rules}
-use Rattle.rowread.specs.Reading.{next_response, used_response}
+use Rattle.rowread.proofs.Reading.{next_response, used_response}
 use Rattle.rows.proofs.next_response.Statement.{statement}
 use Rattle.rows.proofs.next_response.Tie as tie
 

@@ -6,7 +6,8 @@ use lib.ListN.{length}
 use Rattle.rules.specs.Settings.{request_rules}
 use Rattle.grammar.specs.Message.{IsRequestHead}
 use Rattle.heads.specs.Calls.{request}
-use Rattle.rowread.specs.Reading.{Reading, reading_within, reading_wrong_within, readings}
+use Rattle.rowread.specs.Reading.{Reading}
+use Rattle.rowread.proofs.Reading.{reading_within, reading_wrong_within, readings}
 use Rattle.rows.proofs.requests.Statement.{statement}
 use Rattle.rows.proofs.requests.Tie as tie
 

@@ -6,7 +6,8 @@ use lib.ListN.{length}
 use Rattle.rules.specs.Settings.{response_rules}
 use Rattle.grammar.specs.Message.{IsResponseHead}
 use Rattle.heads.specs.Calls.{response}
-use Rattle.rowread.specs.Reading.{Reading, reading_within, reading_wrong_within, readings}
+use Rattle.rowread.specs.Reading.{Reading}
+use Rattle.rowread.proofs.Reading.{reading_within, reading_wrong_within, readings}
 use Rattle.rows.proofs.responses.Statement.{statement}
 use Rattle.rows.proofs.responses.Tie as tie
 

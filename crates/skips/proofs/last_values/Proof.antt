@@ -3,7 +3,8 @@
 use Prim.Native.Nat.{◌-◌}
 use borrow.Author.Rules.{rules}
 use lib.ListN.{length}
-use Rattle.reader.specs.Skip.{Passed, skips}
+use Rattle.reader.specs.Skip.{Passed}
+use Rattle.reader.proofs.Skip.{skips}
 use Rattle.octets.specs.Class.{is_value}
 use Rattle.skips.proofs.last_values.Statement.{statement}
 use Rattle.skips.proofs.last_values.Tie as tie

@@ -3,7 +3,8 @@
 use Prim.Native.Nat.{◌-◌}
 use borrow.Author.Rules.{rules}
 use lib.ListN.{length}
-use Rattle.reader.specs.Skip.{Passed, skips}
+use Rattle.reader.specs.Skip.{Passed}
+use Rattle.reader.proofs.Skip.{skips}
 use Rattle.octets.specs.Class.{is_blank}
 use Rattle.skips.proofs.skip_blank.Statement.{statement}
 use Rattle.skips.proofs.skip_blank.Tie as tie

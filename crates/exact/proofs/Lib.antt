@@ -1,0 +1,3 @@
+pub mod Loop
+pub mod Refusing
+pub mod Seq

@@ -1,0 +1,14 @@
+pub mod Agree
+pub mod Allows
+pub mod More
+pub mod Needed
+pub mod Off
+pub mod Readings
+pub mod RealChunks
+pub mod RealIgnored
+pub mod RealSpaces
+pub mod Said
+pub mod Settings
+pub mod Strict
+pub mod Agrees
+pub mod AsciiAgrees

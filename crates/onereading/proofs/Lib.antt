@@ -1,0 +1,9 @@
+pub mod Derivation
+pub mod Ignored
+pub mod MoreSlots
+pub mod RoundTrip
+pub mod Rows
+pub mod RowsStay
+pub mod SoFar
+pub mod Stays
+pub mod Where

@@ -1,0 +1,12 @@
+pub mod Answer
+pub mod Branch
+pub mod Chain
+pub mod Decided
+pub mod Later
+pub mod Laws
+pub mod Loop
+pub mod Refusals
+pub mod Rescued
+pub mod Seq
+pub mod Skip
+pub mod Refused
