@@ -1,11 +1,9 @@
 -- A NUL in a line that is passed over, or a CR without LF, is an error after all: that of a name where the line was wrong before its colon, and of a value behind it.
 -- Assumes nothing.
 use Rattle.std.specs.Prelude.{ℕ, List}
-use Rattle.reader.specs.Chain.{nothing}
 use Rattle.rules.specs.Rules.{Rules}
 use Rattle.parts.specs.declared.Error.{Error}
 use Rattle.parts.specs.declared.Error.TheVariants.{HeaderName, HeaderValue}
-use Rattle.fields.specs.Line.{line}
 use Rattle.agreement.specs.Wrong.{LineWrongIs, no_name, no_colon, no_value}
 
 -- the error of a line, by where it is wrong

@@ -1,8 +1,7 @@
 -- The readers of the calls are exact for the grammar, and so the calls keep their promises.
 -- Assumes nothing.
-use Rattle.std.specs.Prelude.{ℕ, ◌-◌, List, []}
+use Rattle.std.specs.Prelude.{ℕ, List, []}
 use Rattle.rules.specs.Rules.{default}
-use Rattle.parts.specs.EmptyLines.{start}
 use Rattle.blocks.specs.Block.{Blocks, block}
 use Rattle.heads.specs.Head.{Heads, over}
 

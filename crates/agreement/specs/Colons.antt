@@ -1,13 +1,9 @@
 -- Between the name of each header that is given and its colon stand spaces and tabs where they are allowed, and nothing else.
 -- Assumes nothing.
 use Rattle.std.specs.Prelude.{ℕ, zero, suc, ◌+◌, ◌<◌, ◌≡◌, List, Bool, length, drop, get_or}
-use Rattle.reader.specs.Answer.{and}
 use Rattle.rules.specs.Rules.{Rules}
-use Rattle.names.specs.Name.{name}
 use Rattle.names.specs.Colon.{NameToColon}
 use Rattle.fields.specs.declared.Header.{Header}
-use Rattle.fields.specs.Line.{header}
-use Rattle.blocks.specs.Block.{given}
 
 -- a header's name, up to its colon
 abbrev pub HeaderToColon : List ℕ → Rules → Header → Type 0

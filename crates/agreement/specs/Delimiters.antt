@@ -1,7 +1,7 @@
 -- The spaces between two parts of a start line are read exactly where the grammar has a delimiter: the first ends the part before them, and the others are a gap.
 -- Assumes nothing.
-use Rattle.std.specs.Prelude.{ℕ, ◌≡◌, refl, List, [], ◌∷◌, ◌++◌, Bool, true, false, ◌&&◌, eqb}
-use Rattle.std.proofs.Common.{sym, ap, subst, ◌∙◌, eqb-true, ne_eqb}
+use Rattle.std.specs.Prelude.{ℕ, ◌≡◌, refl, List, [], ◌∷◌, ◌++◌, Bool, true, false, eqb}
+use Rattle.std.proofs.Common.{sym, ap, subst, eqb-true, ne_eqb}
 use Rattle.std.proofs.Math.Bool.{and-false}
 use Rattle.reader.specs.Tests.{both_true}
 use Rattle.gaps.specs.Gap.{spaces_if}

@@ -1,20 +1,18 @@
 -- A reader of heads with n slots, against what the grammar calls a head: the laws from which the promises follow.
 -- Assumes nothing.
-use Rattle.std.specs.Prelude.{ℕ, ◌+◌, ◌-◌, ◌≤◌, ◌<◌, ◌≡◌, List, ◌++◌, length, take}
+use Rattle.std.specs.Prelude.{ℕ, ◌≤◌, ◌<◌, ◌≡◌, List, ◌++◌, length, take}
 use Rattle.reader.specs.Machine.{Step}
-use Rattle.reader.specs.Seq.{first}
-use Rattle.reader.specs.Answer.{got, bad, answer}
+use Rattle.reader.specs.Answer.{got, bad}
 use Rattle.reader.specs.Refusals.{Refuses}
 use Rattle.reader.specs.Known.{known_of}
 use Rattle.exact.specs.Exact.{Relation, Exact}
 use Rattle.rules.specs.Rules.{Rules}
 use Rattle.grammar.specs.Fields.{Field}
-use Rattle.grammar.specs.Message.{IsEmptyLines, IsLineEnd, head}
+use Rattle.grammar.specs.Message.{IsEmptyLines, IsLineEnd}
 use Rattle.parts.specs.declared.Error.TheVariants.{TooManyHeaders}
 use Rattle.parts.specs.declared.Fault.{Fault}
 use Rattle.parts.specs.Answers.{fault}
 use Rattle.fields.specs.declared.Header.{Header}
-use Rattle.leaves.specs.Rows.{In}
 use Rattle.heads.specs.Head.{Heads, Known, given}
 use Rattle.heads.specs.Head as heads
 use Rattle.agreement.specs.Places.{At}

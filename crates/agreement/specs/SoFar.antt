@@ -3,7 +3,6 @@
 use Rattle.std.specs.Prelude.{ℕ, ◌+◌, ◌≤◌, ◌≡◌, refl, List, [], ◌∷◌, ◌++◌, Bool, true, false, length}
 use Rattle.std.proofs.Common.{arith, sym, ap, subst, ◌∙◌, append_assoc, length-append}
 use Rattle.reader.specs.Tests.{clash}
-use Rattle.exact.specs.Branch.{one}
 use Rattle.octets.specs.Class.{is_blank, is_value}
 use Rattle.octets.proofs.Ties.{blank_is_blank}
 use Rattle.rules.specs.Rules.{Rules}

@@ -10,7 +10,7 @@ use Rattle.reader.specs.Tests.{never}
 use Rattle.reader.specs.Seq.{first, cross}
 use Rattle.reader.specs.Skip.{Skipped}
 use Rattle.reader.specs.Loop.{Turn, again, Fresh}
-use Rattle.reader.specs.Answer.{got, answer, retold, rounds}
+use Rattle.reader.specs.Answer.{got, retold, rounds}
 use Rattle.reader.proofs.Answer.{answer_judged, answer_loop}
 use Rattle.reader.specs.Chain.{nothing}
 use Rattle.reader.specs.Branch.{fresh}
@@ -28,7 +28,7 @@ use Rattle.fields.specs.declared.Header.{Header}
 use Rattle.fields.specs.declared.Line.{Line}
 use Rattle.fields.specs.declared.Line.TheVariants as lines
 use Rattle.blocks.specs.declared.Block.{Block}
-use Rattle.fields.specs.Line.{Kind, header, end, LineState, line_step, line, line_of}
+use Rattle.fields.specs.Line.{Kind, LineState, line_step, line, line_of}
 use Rattle.fields.proofs.LineRead.{line_taken, line_behind}
 use Rattle.blocks.specs.Slots.{numbers, filled, filled_none, filled_more}
 use Rattle.blocks.specs.Block.{Blocks, Kept, Told, blanks_before, block, given, lap_step, next_line, next_line_step, none_yet, taken, tell}

@@ -1,12 +1,12 @@
 -- The header block: lines up to the empty one, each header of which takes a slot.
 -- Assumes nothing.
-use Rattle.std.specs.Prelude.{ℕ, ◌+◌, ◌-◌, ◌*◌, ◌≤◌, ◌≡◌, List, [], ◌∷◌, ◌++◌, Bool, true, false, ◌&&◌, cond, ltb, length}
-use Rattle.reader.specs.Machine.{before, Step, run_at}
+use Rattle.std.specs.Prelude.{ℕ, ◌*◌, ◌≤◌, ◌≡◌, List, [], ◌∷◌, ◌++◌, Bool, true, false, ◌&&◌, cond, ltb, length}
+use Rattle.reader.specs.Machine.{Step, run_at}
 use Rattle.reader.specs.Judged.{Verdict, pass, fail, judged}
 use Rattle.reader.specs.Seq.{first}
 use Rattle.reader.specs.Loop.{Turn, again, done, loop}
 use Rattle.reader.specs.Answer.{Answer, got, short, bad, answer, lapwise}
-use Rattle.reader.specs.Chain.{nothing, reads}
+use Rattle.reader.specs.Chain.{reads}
 use Rattle.reader.specs.Branch.{fresh}
 use Rattle.gaps.specs.Gap.{Behind, blanks_if, behind_gap}
 use Rattle.parts.specs.declared.Error.TheVariants.{TooManyHeaders}
@@ -19,7 +19,7 @@ use Rattle.rules.specs.Settings.{line_rules}
 use Rattle.parts.specs.Answers.{fault}
 use Rattle.fields.specs.declared.Header.{Header}
 use Rattle.blocks.specs.declared.Block.{Block}
-use Rattle.fields.specs.Line.{Kind, header, end, ignored, LineState, line_step, line}
+use Rattle.fields.specs.Line.{Kind, header, end, ignored, LineState, line_step}
 use Rattle.blocks.specs.Slots.{filled}
 
 -- what a line adds to the headers hs, with n slots

@@ -1,11 +1,9 @@
 -- A machine that refuses exactly where a relation holds: of the position, the bytes before the one that is refused, what it is refused with, and the bytes from that one on.
 -- Assumes nothing.
 use Rattle.std.specs.Prelude.{ℕ, ◌+◌, ◌≡◌, List, ◌++◌, length}
-use Rattle.reader.specs.Machine.{before, refused, Step, run}
-use Rattle.reader.specs.Seq.{first, second}
+use Rattle.reader.specs.Machine.{refused, Step, run}
 use Rattle.reader.specs.Loop.{Turn, again}
 use Rattle.exact.specs.Exact.{Relation, Part}
-use Rattle.exact.specs.Branch.{one}
 
 pub record Refusing {S A F : Type 0} (m : Step S A F) (s : S) (W : Relation F) : Type 0 where
   pub sound : (p : ℕ) (xs : List ℕ) (x : F) (q : ℕ) → run m s p xs ≡ refused x q → Part W p xs x q

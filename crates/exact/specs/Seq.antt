@@ -1,7 +1,6 @@
 -- One exact machine after another is exact for one relation after the other.
 -- Assumes nothing.
 use Rattle.std.specs.Prelude.{ℕ, ◌+◌, ◌≡◌, List, ◌++◌, length}
-use Rattle.reader.specs.Seq.{first, second}
 use Rattle.exact.specs.Exact.{Relation}
 
 -- the bytes of the second are part of what follows the first

@@ -1,21 +1,20 @@
 -- One line of a header block: a field line (RFC 9112, 5), or the empty line that ends the head.
 -- Assumes nothing.
-use Rattle.std.specs.Prelude.{ℕ, ◌-◌, List, Bool, ◌&&◌, ◌||◌, eqb}
-use Rattle.reader.specs.Machine.{refused, Step}
+use Rattle.std.specs.Prelude.{ℕ, List, Bool, ◌&&◌, ◌||◌, eqb}
+use Rattle.reader.specs.Machine.{Step}
 use Rattle.reader.specs.Judged.{pass, judged}
 use Rattle.reader.specs.Seq.{Then, first, seq}
-use Rattle.reader.specs.Answer.{Answer, got, short, bad, answer, and}
-use Rattle.reader.specs.Chain.{nothing, reads}
+use Rattle.reader.specs.Answer.{Answer, got, short, bad, and}
+use Rattle.reader.specs.Chain.{reads}
 use Rattle.reader.specs.Branch.{Branch, fresh, branch}
 use Rattle.reader.specs.Rescued.{Rescued, trying, rescue}
 use Rattle.gaps.specs.Gap.{Behind}
 use Rattle.parts.specs.declared.Fault.{Fault}
 use Rattle.parts.specs.declared.Error.TheVariants.{NewLine}
 use Rattle.parts.specs.declared.Piece.{Piece}
-use Rattle.parts.specs.Answers.{passed}
 use Rattle.rules.specs.Rules.{Rules}
 use Rattle.parts.specs.LineEnd.{LineEnd, begin, line_end_step}
-use Rattle.names.specs.Name.{Name, none, name_step, name}
+use Rattle.names.specs.Name.{Name, none, name_step}
 use Rattle.fields.specs.declared.Header.{Header}
 use Rattle.fields.specs.declared.Line.{Line}
 use Rattle.fields.specs.declared.Line.TheVariants as lines

@@ -4,7 +4,7 @@ use Rattle.std.specs.Prelude.{ℕ, suc, ◌+◌, ◌≤◌, ◌<◌, ◌≡◌, 
 use Rattle.std.proofs.Common.{arith, add-zero, sym, ap, ◌∙◌, length-append, drop_of_length-le, ne_eqb}
 use Rattle.std.proofs.Math.Decide.{dec_lt}
 use Rattle.std.proofs.Math.ListN.{get_or-append}
-use Rattle.reader.specs.Machine.{before, more, gave, Step, run_at}
+use Rattle.reader.specs.Machine.{more, gave, Step, run_at}
 use Rattle.reader.specs.Bytes.{drop_in, drop_tail}
 use Rattle.reader.specs.Tests.{split, never}
 use Rattle.reader.proofs.Laws.{run_in, run_out}

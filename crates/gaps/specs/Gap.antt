@@ -1,10 +1,9 @@
 -- A gap: bytes of a class that are passed over before a part is read, as many as there are, which may be none.
 -- Assumes nothing.
 use Rattle.std.specs.Prelude.{ℕ, suc, ◌+◌, List, [], ◌∷◌, Bool, ◌&&◌, cond, eqb, drop}
-use Rattle.reader.specs.Machine.{keep, before, more, Step}
+use Rattle.reader.specs.Machine.{keep, before, Step}
 use Rattle.reader.specs.Seq.{Then, seq}
-use Rattle.reader.specs.Answer.{and, either}
-use Rattle.reader.specs.Chain.{nothing}
+use Rattle.reader.specs.Answer.{either}
 use Rattle.octets.specs.Class.{is_blank}
 
 -- passes over bytes of the class, and leaves the next

@@ -5,7 +5,7 @@ use Rattle.reader.specs.Machine.{Step}
 use Rattle.reader.specs.Seq.{first, second}
 use Rattle.reader.specs.Skip.{Skipped}
 use Rattle.reader.specs.Answer.{Answer}
-use Rattle.reader.specs.Chain.{nothing, reads}
+use Rattle.reader.specs.Chain.{reads}
 use Rattle.rules.specs.Rules.{Rules, default}
 use Rattle.parts.specs.declared.Error.{Error}
 use Rattle.parts.specs.declared.Fault.{Fault}

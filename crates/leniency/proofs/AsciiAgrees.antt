@@ -1,12 +1,10 @@
 -- Targets in plain ASCII change nothing of what is accepted with them: a reader with the setting on and one with it off agree.
 -- Assumes nothing.
 use Rattle.std.specs.Prelude.{ℕ, ◌/◌, ◌≤◌, ◌≡◌, List, Bool, length}
-use Rattle.rules.specs.Settings.{off}
-use Rattle.grammar.specs.Message.{RequestLine, IsRequestHead}
+use Rattle.grammar.specs.Message.{IsRequestHead}
 use Rattle.parts.specs.declared.Passed.{Passed}
 use Rattle.parts.specs.declared.Passed.TheVariants.{At}
 use Rattle.requestline.specs.declared.RequestLine as told
-use Rattle.heads.specs.Calls.{request}
 use Rattle.agreement.specs.Known.{RequestSays, fields_in}
 use Rattle.agreement.specs.Promises.{HeadPromise}
 use Rattle.leniency.specs.Agree.{Agrees}

@@ -7,7 +7,7 @@ use Rattle.std.proofs.lemmas.Bool.{false≢true}
 use Rattle.octets.specs.Grammar.{VCHAR}
 use Rattle.rules.specs.declared.Settings.{Settings}
 use Rattle.rules.specs.Rules.{default}
-use Rattle.rules.specs.Settings.{changed, request_rules, response_rules, off, off_request, off_response}
+use Rattle.rules.specs.Settings.{request_rules, response_rules, off, off_request, off_response}
 use Rattle.grammar.specs.Rows.{Some}
 use Rattle.grammar.specs.Fields.{Field}
 use Rattle.grammar.specs.Message.{RequestLine, IsRequestLine, StatusLine, IsRequestHead, IsResponseHead}

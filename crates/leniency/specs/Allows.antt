@@ -3,8 +3,6 @@
 -- Assumes nothing.
 use Rattle.std.specs.Prelude.{◌≡◌, true}
 use Rattle.rules.specs.Rules.{Rules}
-use Rattle.grammar.specs.Rows.{some}
-use Rattle.grammar.specs.Message.{head}
 
 -- s allows what r does, in all lines but the start line
 pub record LinesAllowed (r s : Rules) : Type 0 where

@@ -2,11 +2,9 @@
 -- begins with no space, since where several spaces stand before a reason none of them is of it; and where lines are passed over it asks that no
 -- setting makes something else of them.
 -- Assumes nothing.
-use Rattle.std.specs.Prelude.{ℕ, ◌≡◌, List, ◌∷◌, true, false, not}
+use Rattle.std.specs.Prelude.{ℕ, ◌≡◌, List, ◌∷◌, true, false}
 use Rattle.rules.specs.declared.Settings.{Settings}
 use Rattle.rules.specs.Rules.{Rules}
-use Rattle.grammar.specs.Rows.{none, more}
-use Rattle.grammar.specs.Message.{space}
 use Rattle.leniency.specs.Allows.{LinesAllowed}
 
 -- s allows all that r does

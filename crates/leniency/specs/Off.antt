@@ -3,7 +3,6 @@
 -- Assumes nothing.
 use Rattle.std.specs.Prelude.{◌≡◌, false}
 use Rattle.rules.specs.Rules.{Rules}
-use Rattle.grammar.specs.Rows.{none}
 
 -- all five are off, and the one for lines that are no field line
 pub record AllOff (r : Rules) : Type 0 where

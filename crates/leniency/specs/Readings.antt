@@ -2,9 +2,7 @@
 -- Assumes nothing.
 use Rattle.std.specs.Prelude.{ℕ, List, Bool, true, false}
 use Rattle.rules.specs.declared.Settings.{Settings}
-use Rattle.grammar.specs.Rows.{none}
 use Rattle.grammar.specs.Fields.{Field}
-use Rattle.grammar.specs.Message.{head}
 use Rattle.leniency.specs.Text.{ascii}
 
 -- a reason with a space before it, which is of it by default and not where several spaces may stand there

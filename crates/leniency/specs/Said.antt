@@ -3,7 +3,6 @@
 -- Assumes nothing.
 use Rattle.std.specs.Prelude.{false}
 use Rattle.rules.specs.Rules.{Rules}
-use Rattle.grammar.specs.Message.{head}
 
 -- the rules r with all of them off
 abbrev pub without : Rules → Rules

@@ -2,9 +2,8 @@
 -- settings off the readers and the definition are the default's.
 -- Assumes nothing.
 use Rattle.std.specs.Prelude.{Bool, true, false}
-use Rattle.rules.specs.Rules.{Rules, default}
-use Rattle.rules.specs.Settings.{changed, off}
-use Rattle.heads.specs.Calls.{request}
+use Rattle.rules.specs.Rules.{Rules}
+use Rattle.rules.specs.Settings.{changed}
 
 -- ascii_targets on and off, whatever the three other settings of a request are
 abbrev pub ascii_on : Bool → Bool → Bool → Rules

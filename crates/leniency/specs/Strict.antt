@@ -1,9 +1,9 @@
 -- What is derived under `strict` is derived under `default` with the same fields, where the restrictions known-versions, obs-reason
 -- and sixteen-digits take nothing away.
 -- Assumes nothing.
-use Rattle.std.specs.Prelude.{ℕ, ◌+◌, ◌-◌, ◌≤◌, ◌≡◌, ◌⊎◌, List, [], ◌∷◌, ◌++◌, length}
+use Rattle.std.specs.Prelude.{ℕ, ◌≤◌, ◌≡◌, ◌⊎◌, List, [], ◌∷◌, ◌++◌, length}
 use Rattle.octets.specs.Grammar.{HEXDIG, IsObsText}
-use Rattle.grammar.specs.Rows.{Many, more}
+use Rattle.grammar.specs.Rows.{Many}
 use Rattle.grammar.specs.Message.{Version, StatusLine}
 
 -- known-versions: 1.0 or 1.1

@@ -1,6 +1,6 @@
 -- What stands between a header's name and its colon (RFC 9112, 5.1): spaces and tabs where they are allowed, and nothing else.
 -- Assumes nothing.
-use Rattle.std.specs.Prelude.{ℕ, ◌+◌, ◌-◌, ◌≤◌, ◌<◌, ◌≡◌, List, Bool, true, length, get_or}
+use Rattle.std.specs.Prelude.{ℕ, ◌+◌, ◌≤◌, ◌<◌, ◌≡◌, List, Bool, true, length, get_or}
 use Rattle.reader.specs.Answer.{got}
 use Rattle.octets.specs.Class.{is_token}
 use Rattle.octets.specs.Grammar.{IsTchar, IsBlank}

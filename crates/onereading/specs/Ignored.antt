@@ -1,10 +1,9 @@
 -- What is not lost where invalid lines are ignored: a block line by line, in bytes.
 -- Assumes nothing.
 use Rattle.std.specs.Prelude.{ℕ, ◌≡◌, List, [], ◌∷◌, ◌++◌, Bool, true, false, length}
-use Rattle.reader.specs.Tests.{never}
 use Rattle.octets.specs.Grammar.{IsBlank}
 use Rattle.rules.specs.Rules.{Rules}
-use Rattle.grammar.specs.Rows.{Many, none, Some}
+use Rattle.grammar.specs.Rows.{Many, Some}
 use Rattle.grammar.specs.Fields.{Field}
 use Rattle.grammar.specs.Message.{IsLineEnd, IsFieldLine, IsBeforeFirstName, IsIgnoredLine}
 use Rattle.grammar.specs.Message as grammar

@@ -1,9 +1,7 @@
 -- Heads in a row: the same bytes are no two rows of heads, and reading them from each end on gives exactly those heads.
 -- Assumes nothing.
-use Rattle.std.specs.Prelude.{ℕ, ◌+◌, ◌≡◌, List, ◌∷◌, ◌++◌}
+use Rattle.std.specs.Prelude.{ℕ, ◌≡◌, List, ◌∷◌, ◌++◌}
 use Rattle.grammar.specs.Fields.{Field}
-use Rattle.heads.specs.Head.{Heads}
-use Rattle.rowread.specs.Row.{more}
 
 -- two rows at the start of the same bytes: the first goes on behind the second, or another head of the second is next in rest
 pub data Beside {L : Type 0} (Head : List ℕ → L → List Field → Type 0) (rest : List ℕ) (gs hs : List (L × List Field)) (ds es : List ℕ) : Type 0 where

@@ -9,7 +9,6 @@ use Rattle.reader.proofs.Laws.{run_append, gave_stays, gave_within, refused_with
 use Rattle.reader.specs.Lifted.{lifted}
 use Rattle.reader.specs.Judged.{pass, moved, judged}
 use Rattle.reader.specs.Seq.{first, second, cross, seq}
-use Rattle.reader.specs.Answer.{answer}
 use Rattle.reader.specs.Tests.{never}
 use Rattle.reader.specs.Decided.{Taken, Takes}
 

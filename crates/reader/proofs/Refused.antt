@@ -4,7 +4,6 @@ use Rattle.std.specs.Prelude.{◌≡◌, List, ◌++◌, ℕ, ◌+◌, ◌≤◌
 use Rattle.std.proofs.Common.{ap, ◌∙◌, arith, take-append-drop, length-take-le}
 use Rattle.reader.specs.Machine.{refused, Step, run, run_at}
 use Rattle.reader.proofs.Laws.{refused_stays, refused_within}
-use Rattle.reader.specs.Seq.{first}
 use Rattle.reader.specs.Answer.{short, bad, answer}
 use Rattle.reader.proofs.Decided.{refused_early, refused_late}
 

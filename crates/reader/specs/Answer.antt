@@ -1,11 +1,10 @@
 -- What a run answers, told without its states: what a function over the whole input can say of it.
 -- Assumes nothing.
 use Rattle.std.specs.Prelude.{ℕ}
-use Rattle.reader.specs.Machine.{Run, more, gave, refused, Step, after, run}
+use Rattle.reader.specs.Machine.{Run, more, gave, refused, Step}
 use Rattle.reader.specs.Judged.{Verdict, pass, fail}
-use Rattle.reader.specs.Lifted.{ran}
 use Rattle.reader.specs.Seq.{Then, first, second}
-use Rattle.reader.specs.Loop.{Turn, again, done, loop}
+use Rattle.reader.specs.Loop.{Turn, again, done}
 
 -- an answer, and where the next byte is; the bytes ran out, and what is known by then; a refusal
 pub data Answer (U A F : Type 0) : Type 0 where

@@ -1,9 +1,9 @@
 -- A part in a row of parts: what is known before it stands in its refusals and where the bytes run out, and its answer adds to it.
 -- Assumes nothing.
-use Rattle.std.specs.Prelude.{List, ℕ, ◌-◌}
+use Rattle.std.specs.Prelude.{List, ℕ}
 use Rattle.reader.specs.Machine.{Step, run_at}
 use Rattle.reader.specs.Judged.{pass, judged}
-use Rattle.reader.specs.Answer.{Answer, got, short, bad, answer, and}
+use Rattle.reader.specs.Answer.{Answer, got, short, bad, answer}
 
 -- nothing is known within a part that is not done
 abbrev pub nothing : {S : Type 0} → S → Unit {0}

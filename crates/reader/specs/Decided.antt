@@ -2,7 +2,6 @@
 -- Assumes nothing.
 use Rattle.std.specs.Prelude.{ℕ}
 use Rattle.reader.specs.Machine.{Move, keep, give, before, refuse, Step}
-use Rattle.reader.specs.Answer.{answer}
 
 -- a move that leaves no byte to what follows, and a machine that has no other
 abbrev pub Taken : {S A F : Type 0} → Move S A F → Type 0

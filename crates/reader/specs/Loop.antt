@@ -1,7 +1,7 @@
 -- A machine again and again: each lap answers what the next one starts from, or the end.
 -- Assumes nothing.
 use Rattle.std.specs.Prelude.{◌≡◌, ℕ}
-use Rattle.reader.specs.Machine.{Move, keep, give, before, refuse, Run, more, gave, refused, Step, run}
+use Rattle.reader.specs.Machine.{Move, keep, give, before, refuse, Run, more, gave, refused, Step}
 
 -- what a lap answers
 pub data Turn (A B : Type 0) : Type 0 where

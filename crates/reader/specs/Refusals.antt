@@ -1,7 +1,7 @@
 -- What a machine refuses with, and where: what holds of each move's refusal and its position holds of each run's, and so for machines made of such machines.
 -- Assumes nothing.
 use Rattle.std.specs.Prelude.{ℕ}
-use Rattle.reader.specs.Machine.{Move, keep, give, before, refuse, refused, Step}
+use Rattle.reader.specs.Machine.{Move, keep, give, before, refuse, Step}
 
 -- what is refused satisfies P
 abbrev pub Refusal : {S A F : Type 0} → (F → Type 0) → Move S A F → Type 0

@@ -1,7 +1,7 @@
 -- One machine after another: the second starts where the first answered, and knows its answer.
 -- Assumes nothing.
 use Rattle.std.specs.Prelude.{ℕ}
-use Rattle.reader.specs.Machine.{Move, keep, give, before, refuse, Run, more, gave, refused, Step, after, run}
+use Rattle.reader.specs.Machine.{Move, keep, give, before, refuse, Run, more, gave, refused, Step}
 use Rattle.reader.specs.Lifted.{lifted, ran}
 
 -- in the first machine, or in the second behind an answer of the first

@@ -1,6 +1,6 @@
 -- Where a row of bytes of a class ends, and a machine that such bytes leave in its state.
 -- Assumes nothing.
-use Rattle.std.specs.Prelude.{◌≡◌, List, Bool, true, false, not, ℕ, ◌-◌, ◌≤◌, ◌<◌, length, get_or}
+use Rattle.std.specs.Prelude.{◌≡◌, List, Bool, true, false, ℕ, ◌≤◌, ◌<◌, length, get_or}
 
 -- the bytes from i up to r are of the class
 pub record Passed (class : ℕ → Bool) (xs : List ℕ) (i r : ℕ) : Type 0 where

@@ -1,6 +1,6 @@
 -- Reading a row: what the next head comes to, and what is kept from one to the next.
 -- Assumes nothing.
-use Rattle.std.specs.Prelude.{ℕ, ◌+◌, ◌-◌, ◌/◌, ◌≤◌, ◌<◌, ◌≡◌, List, ◌++◌, length, drop}
+use Rattle.std.specs.Prelude.{ℕ, ◌/◌, ◌≤◌, ◌<◌, ◌≡◌, List, ◌++◌, length, drop}
 use Rattle.grammar.specs.Fields.{Field}
 use Rattle.parts.specs.declared.Error.TheVariants.{TooManyHeaders}
 use Rattle.parts.specs.declared.Fault.{Fault}
