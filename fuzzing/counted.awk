@@ -1,5 +1,6 @@
-# Reads what objdump -dr --no-show-raw-insn says of a library and writes it as assembly with a mark in front of each block, in the
-# sections where libFuzzer looks for the counters of a compiler. The mark is a store, which changes no register and no flag.
+# Reads what objdump -drst --no-show-raw-insn says of a library and writes it as assembly with a mark in front of each block, in the
+# sections where libFuzzer looks for the counters of a compiler. The mark is a store, which changes no register and no flag. The library's
+# constants, of sixteen bytes each, are written out behind it.
 
 function fail(what) {
     print "counted.awk: " what > "/dev/stderr"
@@ -16,13 +17,24 @@ function mark(entry) {
     table = table "  .quad " label(address) ", " entry "\n"
 }
 
-# the second reading has every target
+# the second reading has every target, and where each constant lies
 NR == FNR {
+    if ($2 == "l" && $3 == ".rodata.cst16") constant[$NF] = $1
     if (/^[0-9a-f]+ <.*>:$/) functions++
     if ($2 ~ /^j/) target[functions, $3] = 1
     next
 }
 FNR == 1 { functions = 0 }
+
+# sixteen bytes of a section in a line
+/^Contents of section / { constants = $NF == ".rodata.cst16:" }
+/^Disassembly of section / { constants = 0 }
+constants && /^ [0-9a-f]/ {
+    row = "  .byte "
+    for (i = 1; i < 32; i += 2) row = row (i > 1 ? ", " : "") "0x" substr($2 $3 $4 $5, i, 2)
+    bytes = bytes row "\n"
+    next
+}
 
 /^[0-9a-f]+ <.*>:$/ {
     functions++
@@ -41,7 +53,15 @@ FNR == 1 { functions = 0 }
     print "  call \"" $3 "\""
     next
 }
-/R_X86_64/ { fail("a relocation that is no call: " $0) }
+# so does a constant's name
+waiting != "" && /R_X86_64_PC32/ && sub(/-0x4$/, "", $3) && $3 in constant {
+    sub(/0x0\(%rip\)/, ".Lconstants+0x" constant[$3] "(%rip)", waiting)
+    print "  " waiting
+    waiting = ""
+    next
+}
+/R_X86_64/ { fail("a relocation that is neither a call nor a constant: " $0) }
+waiting != "" { fail("an address that is not known: " waiting) }
 $1 !~ /^[0-9a-f]+:$/ { next }
 
 {
@@ -55,7 +75,7 @@ $2 ~ /^(nop|data16|cs)/ { next }
     begins = $2 ~ /^j/
     entry = 0
 }
-/\*|%rip/ { fail("an address that is not known: " $0) }
+/\*/ { fail("an address that is not known: " $0) }
 $2 ~ /^j/ {
     print "  " $2 " " label($3)
     next
@@ -64,11 +84,13 @@ $2 == "call" { next }
 {
     sub(/^[^\t]*\t/, "")
     sub(/ *[#<].*$/, "")
-    print "  " $0
+    if (/%rip/) waiting = $0
+    else print "  " $0
 }
 
 END {
     if (failed) exit 1
+    if (bytes != "") printf ".section .rodata,\"a\",@progbits\n.balign 16\n.Lconstants:\n%s", bytes
     print ".section __sancov_cntrs,\"aw\",@progbits\n.Lcounters:\n  .zero " blocks
     printf ".section __sancov_pcs,\"aw\",@progbits\n.balign 8\n%s", table
     print ".section .note.GNU-stack,\"\",@progbits"

@@ -1,4 +1,4 @@
-// Links target/staticlib/libheadreader.a, which `rt staticlib headreader` proves and writes, and tells the compiler's version.
+// Links target/staticlib/libheadreader.a, which ./build proves and writes, and tells the compiler's version.
 use std::path::Path;
 use std::process::Command;
 use std::{env, str};
@@ -10,7 +10,7 @@ fn main() {
     println!("cargo:rerun-if-changed={}", archive.display());
     if !archive.exists() {
         panic!(
-            "{} is missing: run `rt staticlib headreader` in the repository's root first",
+            "{} is missing: run ./build in the repository's root first",
             archive.display()
         );
     }

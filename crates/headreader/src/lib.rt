@@ -1,17 +1,12 @@
-// The calls for programs in C: each answer as a number and eight more. The contract of each says that these are the call's answer.
+// The calls in numbers, as programs in C have them: each answer is a number and eight more. The contract of each says that these are the
+// call's answer.
 #![tactic(auto)]
 
 ghost use Rattle.headreader.specs.Exports.{RequestExport, ResponseExport, HeadersExport, SizeExport};
 
 use chunks::ChunkSize;
 
-#[unsafe(no_mangle)]
-pub extern "C" fn hr_request(
-    buf: &[u8],
-    slots: &mut [usize],
-    out: &mut [usize; 8],
-    settings: u32,
-) -> u32
+pub fn hr_request(buf: &[u8], slots: &mut [usize], out: &mut [usize; 8], settings: u32) -> u32
     ensures { RequestExport buf.now slots.old result out.new slots.new settings }
 {
     let head = calls::request(buf, slots, numbers::settings_of(settings));
@@ -20,13 +15,7 @@ pub extern "C" fn hr_request(
     numbers::kind(end)
 }
 
-#[unsafe(no_mangle)]
-pub extern "C" fn hr_response(
-    buf: &[u8],
-    slots: &mut [usize],
-    out: &mut [usize; 8],
-    settings: u32,
-) -> u32
+pub fn hr_response(buf: &[u8], slots: &mut [usize], out: &mut [usize; 8], settings: u32) -> u32
     ensures { ResponseExport buf.now slots.old result out.new slots.new settings }
 {
     let head = calls::response(buf, slots, numbers::settings_of(settings));
@@ -35,8 +24,7 @@ pub extern "C" fn hr_response(
     numbers::kind(end)
 }
 
-#[unsafe(no_mangle)]
-pub extern "C" fn hr_headers(buf: &[u8], slots: &mut [usize], out: &mut [usize; 8]) -> u32
+pub fn hr_headers(buf: &[u8], slots: &mut [usize], out: &mut [usize; 8]) -> u32
     ensures { HeadersExport buf.now slots.old result out.new slots.new }
 {
     let block = calls::headers(buf, slots);
@@ -45,8 +33,7 @@ pub extern "C" fn hr_headers(buf: &[u8], slots: &mut [usize], out: &mut [usize; 
     numbers::kind(end)
 }
 
-#[unsafe(no_mangle)]
-pub extern "C" fn hr_chunk_size(buf: &[u8], out: &mut [usize; 8]) -> u32
+pub fn hr_chunk_size(buf: &[u8], out: &mut [usize; 8]) -> u32
     ensures { SizeExport buf.now result out.new }
 {
     let found = calls::chunk_size(buf);
