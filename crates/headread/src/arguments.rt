@@ -2,7 +2,7 @@
 ghost use Rattle.std.specs.Prelude.{◌≤◌};
 
 use crate::settings;
-use crate::words::{argument, count, room, same, tell};
+use crate::system::{argument, count, room, same, tell};
 use rules::Settings;
 use wording::Kind;
 

@@ -1,7 +1,7 @@
 // The input's bytes. Where they can't be read, standard error says why and what to do.
 ghost use Rattle.std.specs.Prelude.{◌≤◌, length, IfOk};
 
-use crate::words::{tell, tell_why};
+use crate::system::{tell, tell_why};
 use std::fs::File;
 use std::io::{ErrorKind, Read, Stdin};
 use std::{fs, io};

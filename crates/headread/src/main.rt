@@ -4,7 +4,7 @@
 mod arguments;
 mod input;
 mod settings;
-mod words;
+mod system;
 
 use arguments::{Call, Mode};
 use input::Input;
@@ -24,8 +24,8 @@ fn main(rt: HostRuntime) {
 
 // Reads the file that an argument names, and shows what is in it.
 fn read(rt: &HostRuntime, kind: Kind, mode: Mode, settings: Settings, file: usize) {
-    let mut room = words::room();
-    let name = words::whole(rt, file, &mut room);
+    let mut room = system::room();
+    let name = system::whole(rt, file, &mut room);
     let Some(mut source) = input::open(rt, file, name) else {
         return;
     };
@@ -76,12 +76,12 @@ fn write(rt: &HostRuntime, to: &impl Print, page: &Page, n: usize) {
         return;
     }
     if let Err(error) = to.write_all(&all[0..n]) {
-        words::tell_why(rt, b"headread: what was found cannot be written", error);
+        system::tell_why(rt, b"headread: what was found cannot be written", error);
     }
 }
 
 fn refuse_size(rt: &HostRuntime) {
-    words::tell(
+    system::tell(
         rt,
         b"headread: what was found is longer than headread has room for; report this as a bug\n",
     );

@@ -1,7 +1,7 @@
 // The settings, which stand before all other arguments, in any order.
 ghost use Rattle.std.specs.Prelude.{◌≤◌};
 
-use crate::words::{argument, room, same};
+use crate::system::{argument, room, same};
 use rules::Settings;
 
 // How many settings there are.
