@@ -72,7 +72,7 @@ module _ (r : Rules) (n : ℕ) {L K S : Type 0} (m : Step S K (Fault × K)) (kno
     (start_line : List ℕ → L → Type 0) (Says : List ℕ → K → L → Type 0)
     (derived : (z w rest : List ℕ) (k : K) → At z 0 w rest → G 0 w k rest → Started r start_line (Says z k) w)
     (reads : (z e l c rest : List ℕ) (g : L) → At z 0 (e ++ l ++ c) rest → IsEmptyLines r e → start_line l g → IsLineEnd r c → LineRead Says G z 0 (e ++ l ++ c) g rest) where
-  found : (z : List ℕ) (k : K) (hs : List Header) (q : ℕ) → (read r n m known s M ordinary start_line Says derived reads) z ≡ got (k, hs) q → Found (head r start_line) Says n z k hs q
+  found : (z : List ℕ) (k : K) (hs : List Header) (q : ℕ) → read r n m known s M ordinary start_line Says derived reads z ≡ got (k, hs) q → Found (head r start_line) Says n z k hs q
   found z k hs q e =
       let P = (exact_head r n m known s M).sound 0 z (k, hs) q (answered (head_known r n m known s) _ e) in
       let B = P.holds in
@@ -97,7 +97,7 @@ module _ (r : Rules) (n : ℕ) {L K S : Type 0} (m : Step S K (Fault × K)) (kno
       }
 
   -- behind the start line the block is left
-  line_got : (z w rest : List ℕ) (k : K) → At z 0 w rest → G 0 w k rest → (read r n m known s M ordinary start_line Says derived reads) z ≡ over k (block r n [] z (0 + length w))
+  line_got : (z w rest : List ℕ) (k : K) → At z 0 w rest → G 0 w k rest → read r n m known s M ordinary start_line Says derived reads z ≡ over k (block r n [] z (0 + length w))
   line_got z w rest k h g =
       head_parts r n m known s z
       ∙ ap (λ a. headed a (λ k q. over k (block r n [] z q))) (ap (λ y. answer known (run m s 0 y)) (from_at h) ∙ ap (answer known) (M.complete 0 w rest k g))
@@ -117,7 +117,7 @@ module _ (r : Rules) (n : ℕ) {L K S : Type 0} (m : Step S K (Fault × K)) (kno
       let R = reads z e v c (b ++ rest) l h₁ empty line ends in
       record { k = R.k; says = R.says; there = at_second (e ++ v ++ c) b h; answers = line_got z (e ++ v ++ c) (b ++ rest) R.k h₁ R.reads }
 
-  complete_head : (w rest : List ℕ) (l : L) (fs : List Field) → head r start_line w l fs → length fs ≤ n → Tells (head r start_line) Says n (w ++ rest) l fs (λ k hs. got (k, hs) (length w)) ((read r n m known s M ordinary start_line Says derived reads) (w ++ rest))
+  complete_head : (w rest : List ℕ) (l : L) (fs : List Field) → head r start_line w l fs → length fs ≤ n → Tells (head r start_line) Says n (w ++ rest) l fs (λ k hs. got (k, hs) (length w)) (read r n m known s M ordinary start_line Says derived reads (w ++ rest))
   complete_head w rest l fs (grammar.head.message {e = e} {w = v} {c = c} {b = b} empty line ends block) f =
       let z : List ℕ = e ++ v ++ c ++ b ++ rest in
       let D = behind_line e v c b rest l empty line ends in
@@ -125,7 +125,7 @@ module _ (r : Rules) (n : ℕ) {L K S : Type 0} (m : Step S K (Fault × K)) (kno
       let q : 0 + length (e ++ v ++ c) + length b ≡ length (e ++ v ++ c ++ b) = omega (arith, length-append (e ++ v ++ c) b) in
       record { k = D.k; hs = F.new; says = D.says; holds = F.holds; answers = D.answers ∙ ap (over D.k) F.answers ∙ ap (got (D.k, F.new)) q }
 
-  over_head : (w rest : List ℕ) (l : L) (fs : List Field) → head r start_line w l fs → n < length fs → (c : ℕ) × Tells (head r start_line) Says n (w ++ rest) l (take n fs) (λ k hs. bad (fault TooManyHeaders c, (k, hs))) ((read r n m known s M ordinary start_line Says derived reads) (w ++ rest))
+  over_head : (w rest : List ℕ) (l : L) (fs : List Field) → head r start_line w l fs → n < length fs → (c : ℕ) × Tells (head r start_line) Says n (w ++ rest) l (take n fs) (λ k hs. bad (fault TooManyHeaders c, (k, hs))) (read r n m known s M ordinary start_line Says derived reads (w ++ rest))
   over_head w rest l fs (grammar.head.message {e = e} {w = v} {c = c} {b = b} empty line ends block) f =
       let z : List ℕ = e ++ v ++ c ++ b ++ rest in
       let D = behind_line e v c b rest l empty line ends in

@@ -57,10 +57,10 @@ module _ (r : Rules) (xs : List ℕ) where
   named_parts n (short u) = refl
   named_parts n (bad e) = refl
 
-  value_parts : (n : Piece) (q : ℕ) → reads (judged (λ v. pass (named n v)) (λ e. e) (lines_step r)) fresh xs q ≡ (onward r xs) n q
+  value_parts : (n : Piece) (q : ℕ) → reads (judged (λ v. pass (named n v)) (λ e. e) (lines_step r)) fresh xs q ≡ onward r xs n q
   value_parts n q = answer_judged (λ u. u) (λ v. pass (named n v)) (λ e. e) nothing (lines_step r) (drop q xs) fresh q ∙ named_parts n (value_lines r xs q)
 
-  pub field_parts : (at : ℕ) → (field r xs) at ≡ and (name r xs at) (onward r xs)
+  pub field_parts : (at : ℕ) → field r xs at ≡ and (name r xs at) (onward r xs)
   field_parts at =
       answer_seq nothing (λ _. nothing) (name_step r) (λ n. fresh) (λ n. judged (λ v. pass (named n v)) (λ e. e) (lines_step r)) (first none) xs at
       ∙ and_same (name r xs at) value_parts
@@ -74,13 +74,13 @@ module _ (r : Rules) (xs : List ℕ) where
 
     -- where the first byte is of no line's end
     module _ (b : ends r (get_or xs at 0) ≡ false) where
-      pub tried_got : {k : Kind} {q : ℕ} → (field r xs) at ≡ got k q → line r xs at ≡ got k q
+      pub tried_got : {k : Kind} {q : ℕ} → field r xs at ≡ got k q → line r xs at ≡ got k q
       tried_got e = line_tried b ∙ ap (answer nothing) (run_good r.ignore_invalid_headers (field_step r) behind_byte (ignored_step r) (drop at xs) (first (first none)) (first tt) at (answered nothing _ e))
 
       pub tried_short : (field r xs) at ≡ short tt → line r xs at ≡ short tt
       tried_short e = let w = answered_short nothing _ e in line_tried b ∙ ap (answer nothing) (run_waiting r.ignore_invalid_headers (field_step r) behind_byte (ignored_step r) (drop at xs) (first (first none)) (first tt) at w.1)
 
-      pub tried_off : r.ignore_invalid_headers ≡ false → {x : Fault} → (field r xs) at ≡ bad x → line r xs at ≡ bad x
+      pub tried_off : r.ignore_invalid_headers ≡ false → {x : Fault} → field r xs at ≡ bad x → line r xs at ≡ bad x
       tried_off o e = let w = answered_bad nothing _ e in line_tried b ∙ ap (answer nothing) (run_bad r.ignore_invalid_headers (field_step r) behind_byte (ignored_step r) o (drop at xs) (first (first none)) (first tt) at w.1)
 
       -- what was seen of the bytes before the wrong one
@@ -108,7 +108,7 @@ module _ (r : Rules) (xs : List ℕ) where
       watched_is : (q : ℕ) → at ≤ q → q ≤ length xs → watched r.ignore_invalid_headers (field_step r) behind_byte (ignored_step r) (first tt) (take (q - at) (drop at xs)) ≡ seen xs at q
       watched_is q h l = watched_by (q - at) q (omega (arith, h)) l
 
-      pub tried_on : r.ignore_invalid_headers ≡ true → {x : Fault} → (field r xs) at ≡ bad x → line r xs at ≡ ended ignored (reads (rest_step r x.error) (seen xs at x.position) xs x.position)
+      pub tried_on : r.ignore_invalid_headers ≡ true → {x : Fault} → field r xs at ≡ bad x → line r xs at ≡ ended ignored (reads (rest_step r x.error) (seen xs at x.position) xs x.position)
       tried_on o {x} e =
           let w = answered_bad nothing _ e in
           let q : ℕ = w.0 in

@@ -60,7 +60,7 @@ behind_zero {r} {s} {x} b ys f k d e = by (size_row k) e
     by (more h none) q = same_tail q
     by (more h (more {b = c} g l)) q = absurd (differs is_hex_digit f ((hex_digit_is_HEXDIG c).1 g) (same_head (same_tail q)))
 
--- blank-behind-size
+-- blank_behind_size
 no_blanks : {r : Rules} {x : List ℕ} → r.blank_behind_size ≡ false → View r x → x ++ CRLF ≡ 32 ∷ 13 ∷ 10 ∷ [] → ⊥
 no_blanks f nothing e = eqb-false 13 32 refl (same_head e)
 no_blanks f (blanks t o) e = clash t f
@@ -84,7 +84,7 @@ blank_behind_size_real = (
   λ r f d. no_blank_line f d.1 refl,
 )
 
--- any-extension
+-- any_extension
 no_names : {b n : List ℕ} → Many IsBlank b → Some IsTchar n → (zs ys : List ℕ) → b ++ (n ++ zs) ≡ 13 ∷ ys → ⊥
 no_names none (some {b = c} h k) zs ys e = differs is_token cr_no_token ((token_is_tchar c).1 h) (same_head e)
 no_names (more {b = c} h l) k zs ys e = differs is_blank cr_no_blank ((blank_is_blank c).1 h) (same_head e)
@@ -120,7 +120,7 @@ no_size_line f (chunked.IsChunkLine.line {s = s} {x = x} k d) e = no_size f k (x
 pub no_digit_real : Real (λ r. r.no_digit) (Chunk (ascii "\r\n"))
 no_digit_real = (λ r t. (0, chunked.IsChunkLine.line (chunked.IsChunkSize.no_digit t) (chunked.IsBehindSize.extension chunked.IsChunkExt.none)), λ r f d. no_size_line f d.1 refl)
 
--- sixteen-digits: the default reading, which has every leniency on, refuses the seventeenth
+-- sixteen_digits: the default reading, which has every leniency on, refuses the seventeenth
 in_default : {r : Rules} {w : List ℕ} {n : ℕ} → r.sixteen_digits ≡ true → IsChunkLine r w n → IsChunkLine default w n
 in_default {r} t (chunked.IsChunkLine.line k d) = chunked.IsChunkLine.line (size k) (behind d)
   where

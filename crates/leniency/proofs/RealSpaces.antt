@@ -34,7 +34,7 @@ use Rattle.leniency.specs.Lines.{on_if, Bare, bare, above_ignorable, behind_end,
 use Rattle.leniency.specs.Lines as lines
 use Rattle.leniency.specs.RealHeads.{two_hundred, no_fields, before_end, said, begins_space, no_end, asked}
 
--- spaces-in-request-line
+-- spaces_in_request_line
 no_space_target : {r : Rules} {t : List ℕ} → IsRequestTarget r t → (zs ys : List ℕ) → t ++ zs ≡ 32 ∷ ys → ⊥
 no_space_target (grammar.IsRequestTarget.visible (some h k)) zs ys e = omega (arith, h.low, same_head e)
 no_space_target (grammar.IsRequestTarget.any t (some h k) u) zs ys e = omega (arith, vchar_above h, same_head e)
@@ -55,7 +55,7 @@ spaces_in_request_line_real = (
   λ r f d. let A = asked (ascii "  * HTTP/1.0\r\n\r\n") d.2 refl in no_two_spaces f A.line (A.c ++ A.b) (ascii "* HTTP/1.0\r\n\r\n") A.whole,
 )
 
--- spaces-in-status-line
+-- spaces_in_status_line
 no_gap : (several : Bool) {g : List ℕ} {x : ℕ} → several ≡ false → Many (In (spaces_if several)) g → 48 ≤ x → (zs ys : List ℕ) → g ++ (x ∷ zs) ≡ 32 ∷ ys → ⊥
 no_gap several f none h zs ys e = omega (arith, h, same_head e)
 no_gap several f (more {b = b} x k) h zs ys e = clash (both_true several (eqb b 32) x).0 f
@@ -97,7 +97,7 @@ block_of {r} {fs = fs} ys d =
 pub a_response : {r : Rules} {b : List ℕ} {fs : List Field} → IsHeaderBlock r true b fs → IsResponseHead r (ascii "HTTP/1.0 200 \r\n" ++ b) (said 1 200) fs
 a_response b = grammar.head.message grammar.IsEmptyLines.none (grammar.IsStatusLine.no_reason one_zero grammar.IsDelimiter.one two_hundred grammar.IsDelimiter.one) crlf b
 
--- space-before-first-name: a line of a space is no end without it, and where lines are passed over nothing is left behind it
+-- space_before_first_name: a line of a space is no end without it, and where lines are passed over nothing is left behind it
 no_space_before : {r : Rules} {b : List ℕ} {fs : List Field} → Bare r true b fs → b ≡ ascii " \r\n" → ⊥
 no_space_before (lines.end crlf) e = eqb-false 13 32 refl (same_head e)
 no_space_before (lines.end (lf t)) e = eqb-false 10 32 refl (same_head e)
@@ -117,7 +117,7 @@ space_before_first_name_real = (
   λ r f d. no_space_before (bare (block_of (ascii " \r\n") d.2) 32 (ascii "\r\n") refl (λ t h. clash t f)) refl,
 )
 
--- spaces-after-name: without it a line with a space behind its name is passed over or refused
+-- spaces_after_name: without it a line with a space behind its name is passed over or refused
 no_space_ignored : {r : Rules} {v : List ℕ} → r.spaces_after_name ≡ false → BehindLetter r v → (zs : List ℕ) → v ++ zs ≡ ascii " :\r\n\r\n" → zs ≡ ascii "\r\n"
 no_space_ignored f (lines.no_colon {u = u} {e = c} grammar.IsBehindName.nothing x k d) zs e =
     let spaced : Many IsIgnorable (ascii " :") = more (above_ignorable 0x20 (omega arith)) (more (above_ignorable 0x3A (omega arith)) none) in
@@ -153,7 +153,7 @@ spaces_after_name_real = (
 pub spaces_after_name_given : Real (λ r. r.spaces_after_name) (λ r. IsResponseHead r (ascii "HTTP/1.0 200 \r\nA :\r\n\r\n") (said 1 200) (field [] ∷ []))
 spaces_after_name_given = (space_behind, λ r f d. let q = (no_space_behind f (at_letter (ascii " :\r\n\r\n") (block_of (ascii "A :\r\n\r\n") d) refl) refl).1 in never cc)
 
--- multiline-headers: a value and what is around it in one line are text, and so end before a line's end
+-- multiline_headers: a value and what is around it in one line are text, and so end before a line's end
 around_text : {r : Rules} {o v t : List ℕ} → r.multiline_headers ≡ false → IsAroundValue r o → IsValueLines r v → IsAroundValue r t → Many IsText (o ++ v ++ t)
 around_text f o v t = many_append (many_append (many_as (λ b. bytes.IsText.white) (blanks_around f o)) (value_text (one_line f v))) (many_as (λ b. bytes.IsText.white) (blanks_around f t))
 

@@ -1,5 +1,5 @@
--- What is derived under `strict` is derived under `default` with the same fields, where the restrictions known-versions, obs-reason
--- and sixteen-digits take nothing away.
+-- What is derived under `strict` is derived under `default` with the same fields, where the restrictions known_versions, obs_reason
+-- and sixteen_digits take nothing away.
 -- Assumes nothing.
 use Rattle.std.specs.Prelude.{ℕ, ◌+◌, ◌-◌, ◌≤◌, ◌≡◌, refl, List, [], ◌∷◌, ◌++◌, Bool, true, false, length}
 use Rattle.std.proofs.Common.{arith, sym, ap, subst, inl, inr, append_assoc}
@@ -55,7 +55,7 @@ request_line_too k (grammar.IsRequestLine.line m d t e v) = grammar.IsRequestLin
 pub strict_request : {w : List ℕ} {l : RequestLine} {fs : List Field} → IsRequestHead strict w l fs → Known l.version → IsRequestHead default w l fs
 strict_request h k = head_as lines none_ignored (λ v. request_line_too k) h
 
--- obs-reason: a reason that is plain text
+-- obs_reason: a reason that is plain text
 some_ascii : {w : List ℕ} → Some IsText w → Many IsAsciiText w → Some IsAsciiText w
 some_ascii (some x k) (more y l) = some y l
 

@@ -1,4 +1,4 @@
--- Each rule of a head makes a difference: the byte string is one of its entry in docs/DIFFERENCES.md. obs-reason changes what is given.
+-- Each rule of a head makes a difference: the byte string is one of its entry in docs/DIFFERENCES.md. obs_reason changes what is given.
 -- Assumes nothing.
 use Rattle.std.specs.Prelude.{ℕ, ◌≡◌, refl, List, [], ◌∷◌, ◌++◌, Bool, true, false, eqb}
 use Rattle.std.proofs.Common.{arith, sym, ap, ◌∙◌, append_assoc}
@@ -22,7 +22,7 @@ use Rattle.leniency.specs.Real.{Real, Restricts, Request, Response, Headers}
 use Rattle.leniency.specs.Shapes.{same_head, same_tail, shape, answer, behind_code_lem}
 use Rattle.leniency.specs.Lines.{at_lf}
 
--- lf-alone
+-- lf_alone
 no_lf : {r : Rules} {w : List ℕ} → r.lf_alone ≡ false → IsLineEnd r w → w ≡ ascii "\n" → ⊥
 no_lf f crlf e = let q : ◌≡◌ {A = ℕ} 13 10 = cc in omega (arith, q)
 no_lf f (lf t) e = clash t f
@@ -47,7 +47,7 @@ before_end r t c u e h = differs is_blank cr_no_blank ((blank_is_blank c).1 h) (
 abbrev pub said : ℕ → ℕ → StatusLine
 said major code = record { version = record { major = major; minor = 0 }; code = code; reason = [] }
 
--- empty-lines
+-- empty_lines
 no_empty : {r : Rules} {w : List ℕ} {l : StatusLine} {fs : List Field} (ys : List ℕ) → r.empty_lines ≡ false → IsResponseHead r w l fs → w ≡ 13 ∷ ys → ⊥
 no_empty ys f (grammar.head.message {c = c} {b = b} grammar.IsEmptyLines.none d k x) e = let q : ◌≡◌ {A = ℕ} 72 13 = same_head (ap (λ y. y ++ c ++ b) (sym (shape d).whole) ∙ e) in omega (arith, q)
 no_empty ys f (grammar.head.message (grammar.IsEmptyLines.more t i j) d k x) e = clash t f
@@ -58,7 +58,7 @@ empty_lines_real = (
   λ r f d. no_empty (ascii "\nHTTP/1.0 200 \r\n\r\n") f d.2 refl,
 )
 
--- known-versions
+-- known_versions
 pub known_versions_real : Restricts (λ r. r.known_versions) (Response (ascii "HTTP/0.0 200 \r\n\r\n"))
 unfolding within
 known_versions_real = (
@@ -84,7 +84,7 @@ pub begins_space : {several : Bool} {d : List ℕ} → IsDelimiter several d →
 begins_space grammar.IsDelimiter.one zs b ys e = cc
 begins_space (grammar.IsDelimiter.more t k) zs b ys e = cc
 
--- code-ends-line
+-- code_ends_line
 no_short : {r : Rules} {t g : List ℕ} → r.code_ends_line ≡ false → Tail r t g → (zs ys : List ℕ) → t ++ zs ≡ 13 ∷ ys → ⊥
 no_short f (tails.reason {d = d} {u = u} s x n) zs ys e = omega (arith, begins_space s (u ++ zs) 13 ys (sym (append_assoc d u zs) ∙ e))
 no_short f (tails.nothing s) zs ys e = omega (arith, begins_space s zs 13 ys e)
@@ -98,7 +98,7 @@ code_ends_line_real = (
       no_short f A.line.tail (A.c ++ A.b) (ascii "\n\r\n") (behind_code_lem A (ascii "\r\n\r\n") refl refl).1,
 )
 
--- obs-reason: what is given, and not what is read
+-- obs_reason: what is given, and not what is read
 pub no_end : {r : Rules} {c : List ℕ} (b : ℕ) → eqb 13 b ≡ false → eqb 10 b ≡ false → IsLineEnd r c → (zs ys : List ℕ) → c ++ zs ≡ b ∷ ys → ⊥
 no_end b f g crlf zs ys e = eqb-false 13 b f (same_head e)
 no_end b f g (lf t) zs ys e = eqb-false 10 b g (same_head e)

@@ -21,23 +21,23 @@ short_not_bad e = let z : ◌≡◌ {A = ℕ} 0 1 = cc in omega arith
 -- what a run answers, where `known` tells what is known in a state
 module _ {S U A F : Type 0} (known : S → U) where
   -- the run behind an answer
-  pub answered : (r : Run S A F) {a : A} {q : ℕ} → (answer known) r ≡ got a q → r ≡ gave a q
+  pub answered : (r : Run S A F) {a : A} {q : ℕ} → answer known r ≡ got a q → r ≡ gave a q
   answered (more s) e = cc
   answered (gave b p) e = cc
   answered (refused x p) e = cc
 
-  pub answered_short : (r : Run S A F) {u : U} → (answer known) r ≡ short u → (s : S) × (r ≡ more s)
+  pub answered_short : (r : Run S A F) {u : U} → answer known r ≡ short u → (s : S) × (r ≡ more s)
   answered_short (more s) e = (s, refl)
   answered_short (gave b p) e = absurd (short_not_got (sym e))
   answered_short (refused x p) e = absurd (short_not_bad (sym e))
 
-  pub answered_bad : (r : Run S A F) {e : F} → (answer known) r ≡ bad e → (q : ℕ) × (r ≡ refused e q)
+  pub answered_bad : (r : Run S A F) {e : F} → answer known r ≡ bad e → (q : ℕ) × (r ≡ refused e q)
   answered_bad (more s) e = (0, cc)
   answered_bad (gave b p) e = (0, cc)
   answered_bad (refused x p) e = (p, cc)
 
   -- a refusal never changes when more bytes arrive
-  pub bad_stays : (m : Step S A F) (bs cs : List ℕ) (s : S) (p : ℕ) {e : F} → (answer known) (run m s p bs) ≡ bad e → (answer known) (run m s p (bs ++ cs)) ≡ bad e
+  pub bad_stays : (m : Step S A F) (bs cs : List ℕ) (s : S) (p : ℕ) {e : F} → answer known (run m s p bs) ≡ bad e → answer known (run m s p (bs ++ cs)) ≡ bad e
   bad_stays m bs cs s p e = let w = answered_bad _ e in ap (answer known) (refused_stays m bs cs s p w.1)
 
 -- a run in the states of a larger machine answers the same
@@ -49,21 +49,21 @@ answer_ran f known (refused e q) = refl
 -- a part's answer in a larger machine's words
 module _ {U W A B E F : Type 0} (h : U → W) (f : A → Verdict B F) (g : E → F) where
   module _ {S : Type 0} (known : S → U) (m : Step S A E) where
-    gives : (p : ℕ) (k : S → Run S B F) (v : Verdict B F) → answer (known' h f g known m) (after (given f g v) p k) ≡ (verdict h f g) v (p + 1)
+    gives : (p : ℕ) (k : S → Run S B F) (v : Verdict B F) → answer (known' h f g known m) (after (given f g v) p k) ≡ verdict h f g v (p + 1)
     gives p k (pass b) = refl
     gives p k (fail x) = refl
 
-    leaves : (p : ℕ) (k : S → Run S B F) (v : Verdict B F) → answer (known' h f g known m) (after (left f g v) p k) ≡ (verdict h f g) v p
+    leaves : (p : ℕ) (k : S → Run S B F) (v : Verdict B F) → answer (known' h f g known m) (after (left f g v) p k) ≡ verdict h f g v p
     leaves p k (pass b) = refl
     leaves p k (fail x) = refl
 
-    judged_step : (bs : List ℕ) (p : ℕ) (v : Move S A E) → ((s : S) → answer (known' h f g known m) (run (judged f g m) s (p + 1) bs) ≡ (retold h f g) (answer known (run m s (p + 1) bs))) → answer (known' h f g known m) (after (moved f g v) p (λ s. run (judged f g m) s (p + 1) bs)) ≡ (retold h f g) (answer known (after v p (λ s. run m s (p + 1) bs)))
+    judged_step : (bs : List ℕ) (p : ℕ) (v : Move S A E) → ((s : S) → answer (known' h f g known m) (run (judged f g m) s (p + 1) bs) ≡ retold h f g (answer known (run m s (p + 1) bs))) → answer (known' h f g known m) (after (moved f g v) p (λ s. run (judged f g m) s (p + 1) bs)) ≡ retold h f g (answer known (after v p (λ s. run m s (p + 1) bs)))
     judged_step bs p (keep s) ih = ih s
     judged_step bs p (give a) ih = gives p (λ s. run (judged f g m) s (p + 1) bs) (f a)
     judged_step bs p (before a) ih = leaves p (λ s. run (judged f g m) s (p + 1) bs) (f a)
     judged_step bs p (refuse e) ih = refl
 
-    pub answer_judged : (bs : List ℕ) (s : S) (p : ℕ) → answer (known' h f g known m) (run (judged f g m) s p bs) ≡ (retold h f g) (answer known (run m s p bs))
+    pub answer_judged : (bs : List ℕ) (s : S) (p : ℕ) → answer (known' h f g known m) (run (judged f g m) s p bs) ≡ retold h f g (answer known (run m s p bs))
     answer_judged [] s p = refl
     answer_judged (b ∷ bs) s p = judged_step bs p (m s p b) (λ s'. answer_judged bs s' (p + 1))
 

@@ -32,27 +32,27 @@ answer_ended {A = A} {E = E} c m s xs p = answer_judged (λ u. u) (λ _. pass c)
     told (bad e) = refl
 
 module _ {K A E : Type 0} (k : K) (f : A → K) where
-  pub chain_same : {B : Type 0} (r : Answer (Unit {0}) A E) {next next' : K → ℕ → Answer K B (E × K)} → ((k' : K) (q : ℕ) → next k' q ≡ next' k' q) → (chain k f) r next ≡ (chain k f) r next'
+  pub chain_same : {B : Type 0} (r : Answer (Unit {0}) A E) {next next' : K → ℕ → Answer K B (E × K)} → ((k' : K) (q : ℕ) → next k' q ≡ next' k' q) → chain k f r next ≡ chain k f r next'
   chain_same (got a q) h = h (f a) q
   chain_same (short u) h = refl
   chain_same (bad e) h = refl
 
-  told_last : (r : Answer (Unit {0}) A E) → retold (λ _. k) (λ a. pass (f a)) (λ e. (e, k)) r ≡ (last k f) r
+  told_last : (r : Answer (Unit {0}) A E) → retold (λ _. k) (λ a. pass (f a)) (λ e. (e, k)) r ≡ last k f r
   told_last (got a q) = refl
   told_last (short u) = refl
   told_last (bad e) = refl
 
-  told_chain : {B : Type 0} (r : Answer (Unit {0}) A E) (next : K → ℕ → Answer K B (E × K)) → and ((last k f) r) next ≡ (chain k f) r next
+  told_chain : {B : Type 0} (r : Answer (Unit {0}) A E) (next : K → ℕ → Answer K B (E × K)) → and (last k f r) next ≡ chain k f r next
   told_chain (got a q) next = refl
   told_chain (short u) next = refl
   told_chain (bad e) next = refl
 
   module _ {S : Type 0} (m : Step S A E) (s : S) (xs : List ℕ) (p : ℕ) where
-    pub answer_last : answer (λ _. k) (run_at ((part k f) m) s xs p) ≡ (last k f) (reads m s xs p)
+    pub answer_last : answer (λ _. k) (run_at (part k f m) s xs p) ≡ last k f (reads m s xs p)
     answer_last = answer_judged (λ _. k) (λ a. pass (f a)) (λ e. (e, k)) nothing m (drop p xs) s p ∙ told_last (reads m s xs p)
 
-    pub answer_chain : {B T : Type 0} (known : K → T → K) (start : K → T) (n : K → Step T B (E × K)) → answer (either (λ _. k) known) (run_at (seq ((part k f) m) start n) (first s) xs p) ≡ (chain k f) (reads m s xs p) (λ k' q. answer (known k') (run_at (n k') (start k') xs q))
+    pub answer_chain : {B T : Type 0} (known : K → T → K) (start : K → T) (n : K → Step T B (E × K)) → answer (either (λ _. k) known) (run_at (seq (part k f m) start n) (first s) xs p) ≡ chain k f (reads m s xs p) (λ k' q. answer (known k') (run_at (n k') (start k') xs q))
     answer_chain known start n =
-        answer_seq (λ _. k) known ((part k f) m) start n s xs p
+        answer_seq (λ _. k) known (part k f m) start n s xs p
         ∙ ap (λ r. and r (λ k' q. answer (known k') (run_at (n k') (start k') xs q))) answer_last
         ∙ told_chain (reads m s xs p) (λ k' q. answer (known k') (run_at (n k') (start k') xs q))

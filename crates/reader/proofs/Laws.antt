@@ -15,13 +15,13 @@ module _ {S A F : Type 0} (m : Step S A F) where
   pub run_out : (s : S) (xs : List ℕ) (i : ℕ) → length xs ≤ i → run_at m s xs i ≡ more s
   run_out s xs i h = rw drop_of_length-le
 
-  resume_step : (bs cs : List ℕ) (p : ℕ) (v : Move S A F) → ((s : S) → run m s (p + 1) (bs ++ cs) ≡ (resume m) (run m s (p + 1) bs) (p + 1 + length bs) cs) → after v p (λ s'. run m s' (p + 1) (bs ++ cs)) ≡ (resume m) (after v p (λ s'. run m s' (p + 1) bs)) (p + suc (length bs)) cs
-  resume_step bs cs p (keep s) ih = ih s ∙ ap (λ (n : ℕ). (resume m) (run m s (p + 1) bs) n cs) (omega arith)
+  resume_step : (bs cs : List ℕ) (p : ℕ) (v : Move S A F) → ((s : S) → run m s (p + 1) (bs ++ cs) ≡ resume m (run m s (p + 1) bs) (p + 1 + length bs) cs) → after v p (λ s'. run m s' (p + 1) (bs ++ cs)) ≡ resume m (after v p (λ s'. run m s' (p + 1) bs)) (p + suc (length bs)) cs
+  resume_step bs cs p (keep s) ih = ih s ∙ ap (λ (n : ℕ). resume m (run m s (p + 1) bs) n cs) (omega arith)
   resume_step bs cs p (give a) ih = refl
   resume_step bs cs p (before a) ih = refl
   resume_step bs cs p (refuse e) ih = refl
 
-  pub run_append : (bs cs : List ℕ) (s : S) (p : ℕ) → run m s p (bs ++ cs) ≡ (resume m) (run m s p bs) (p + length bs) cs
+  pub run_append : (bs cs : List ℕ) (s : S) (p : ℕ) → run m s p (bs ++ cs) ≡ resume m (run m s p bs) (p + length bs) cs
   run_append [] cs s p = rw add-zero
   run_append (b ∷ bs) cs s p = resume_step bs cs p (m s p b) (λ s'. run_append bs cs s' (p + 1))
 

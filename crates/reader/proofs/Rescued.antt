@@ -11,17 +11,17 @@ use Rattle.reader.specs.Rescued.{Rescued, caught, rescue, rescuing, trying, watc
 
 module _ {S T A F : Type 0} (on : Bool) (m : Step S A F) (watch : T → ℕ → T) (n : F → Step T A F) where
   -- where the machine waits the whole does, and where it answers it answers
-  waiting_step : (bs : List ℕ) (p : ℕ) (t : T) (v : Move S A F) (k : F → Move T A F) {s' : S} → ((s : S) → run m s (p + 1) bs ≡ more s' → run (rescue on m watch n) (trying s t) (p + 1) bs ≡ more (trying s' ((watched on m watch n) t bs))) → after v p (λ s. run m s (p + 1) bs) ≡ more s' → after ((caught on m watch n) t v k) p (λ c. run (rescue on m watch n) c (p + 1) bs) ≡ more (trying s' ((watched on m watch n) t bs))
+  waiting_step : (bs : List ℕ) (p : ℕ) (t : T) (v : Move S A F) (k : F → Move T A F) {s' : S} → ((s : S) → run m s (p + 1) bs ≡ more s' → run (rescue on m watch n) (trying s t) (p + 1) bs ≡ more (trying s' (watched on m watch n t bs))) → after v p (λ s. run m s (p + 1) bs) ≡ more s' → after (caught on m watch n t v k) p (λ c. run (rescue on m watch n) c (p + 1) bs) ≡ more (trying s' (watched on m watch n t bs))
   waiting_step bs p t (keep s) k ih e = ih s e
   waiting_step bs p t (give a) k ih e = never cc
   waiting_step bs p t (before a) k ih e = never cc
   waiting_step bs p t (refuse x) k ih e = never cc
 
-  pub run_waiting : (bs : List ℕ) (s : S) (t : T) (p : ℕ) {s' : S} → run m s p bs ≡ more s' → run (rescue on m watch n) (trying s t) p bs ≡ more (trying s' ((watched on m watch n) t bs))
+  pub run_waiting : (bs : List ℕ) (s : S) (t : T) (p : ℕ) {s' : S} → run m s p bs ≡ more s' → run (rescue on m watch n) (trying s t) p bs ≡ more (trying s' (watched on m watch n t bs))
   run_waiting [] s t p {s'} e = let i : s ≡ s' = cc in ap (λ y. more (trying y t)) i
   run_waiting (b ∷ bs) s t p e = waiting_step bs p (watch t b) (m s p b) (λ x. n x t p b) (λ s' e'. run_waiting bs s' (watch t b) (p + 1) e') e
 
-  good_step : (bs : List ℕ) (p : ℕ) (t : T) (v : Move S A F) (k : F → Move T A F) {a : A} {q : ℕ} → ((s : S) → run m s (p + 1) bs ≡ gave a q → run (rescue on m watch n) (trying s t) (p + 1) bs ≡ gave a q) → after v p (λ s. run m s (p + 1) bs) ≡ gave a q → after ((caught on m watch n) t v k) p (λ c. run (rescue on m watch n) c (p + 1) bs) ≡ gave a q
+  good_step : (bs : List ℕ) (p : ℕ) (t : T) (v : Move S A F) (k : F → Move T A F) {a : A} {q : ℕ} → ((s : S) → run m s (p + 1) bs ≡ gave a q → run (rescue on m watch n) (trying s t) (p + 1) bs ≡ gave a q) → after v p (λ s. run m s (p + 1) bs) ≡ gave a q → after (caught on m watch n t v k) p (λ c. run (rescue on m watch n) c (p + 1) bs) ≡ gave a q
   good_step bs p t (keep s) k ih e = ih s e
   good_step bs p t (give a) k ih e = cc
   good_step bs p t (before a) k ih e = cc
@@ -32,7 +32,7 @@ module _ {S T A F : Type 0} (on : Bool) (m : Step S A F) (watch : T → ℕ → 
   run_good (b ∷ bs) s t p e = good_step bs p (watch t b) (m s p b) (λ x. n x t p b) (λ s' e'. run_good bs s' (watch t b) (p + 1) e') e
 
   -- where it refuses and nothing takes over, the whole refuses
-  bad_step : on ≡ false → (bs : List ℕ) (p : ℕ) (t : T) (v : Move S A F) (k : F → Move T A F) {x : F} {q : ℕ} → ((s : S) → run m s (p + 1) bs ≡ refused x q → run (rescue on m watch n) (trying s t) (p + 1) bs ≡ refused x q) → after v p (λ s. run m s (p + 1) bs) ≡ refused x q → after ((caught on m watch n) t v k) p (λ c. run (rescue on m watch n) c (p + 1) bs) ≡ refused x q
+  bad_step : on ≡ false → (bs : List ℕ) (p : ℕ) (t : T) (v : Move S A F) (k : F → Move T A F) {x : F} {q : ℕ} → ((s : S) → run m s (p + 1) bs ≡ refused x q → run (rescue on m watch n) (trying s t) (p + 1) bs ≡ refused x q) → after v p (λ s. run m s (p + 1) bs) ≡ refused x q → after (caught on m watch n t v k) p (λ c. run (rescue on m watch n) c (p + 1) bs) ≡ refused x q
   bad_step o bs p t (keep s) k ih e = ih s e
   bad_step o bs p t (give a) k ih e = never cc
   bad_step o bs p t (before a) k ih e = never cc
@@ -52,13 +52,13 @@ module _ {S T A F : Type 0} (on : Bool) (m : Step S A F) (watch : T → ℕ → 
         let same : y ≡ x = cc in
         run_entered (rescuing x) (n x) (rescue on m watch n) (λ u q c. refl) (trying s t) t b bs p (rw (h, o, same))
 
-    later : (b : ℕ) (w rest : List ℕ) (s : S) (t : T) (p : ℕ) (v : Move S A F) {x : F} → ((s' : S) → run m s' (p + 1) (w ++ rest) ≡ refused x (p + 1 + length w) → run (rescue on m watch n) (trying s' (watch t b)) (p + 1) (w ++ rest) ≡ ran (rescuing x) (run (n x) ((watched on m watch n) (watch t b) w) (p + 1 + length w) rest)) → after v p (λ s'. run m s' (p + 1) (w ++ rest)) ≡ refused x (p + suc (length w)) → after ((caught on m watch n) (watch t b) v (λ e. n e t p b)) p (λ c. run (rescue on m watch n) c (p + 1) (w ++ rest)) ≡ ran (rescuing x) (run (n x) ((watched on m watch n) (watch t b) w) (p + suc (length w)) rest)
-    later b w rest s t p (keep s') {x} ih u = let i : p + 1 + length w ≡ p + suc (length w) = omega arith in ih s' (u ∙ ap (refused x) (sym i)) ∙ ap (λ y. ran (rescuing x) (run (n x) ((watched on m watch n) (watch t b) w) y rest)) i
+    later : (b : ℕ) (w rest : List ℕ) (s : S) (t : T) (p : ℕ) (v : Move S A F) {x : F} → ((s' : S) → run m s' (p + 1) (w ++ rest) ≡ refused x (p + 1 + length w) → run (rescue on m watch n) (trying s' (watch t b)) (p + 1) (w ++ rest) ≡ ran (rescuing x) (run (n x) (watched on m watch n (watch t b) w) (p + 1 + length w) rest)) → after v p (λ s'. run m s' (p + 1) (w ++ rest)) ≡ refused x (p + suc (length w)) → after (caught on m watch n (watch t b) v (λ e. n e t p b)) p (λ c. run (rescue on m watch n) c (p + 1) (w ++ rest)) ≡ ran (rescuing x) (run (n x) (watched on m watch n (watch t b) w) (p + suc (length w)) rest)
+    later b w rest s t p (keep s') {x} ih u = let i : p + 1 + length w ≡ p + suc (length w) = omega arith in ih s' (u ∙ ap (refused x) (sym i)) ∙ ap (λ y. ran (rescuing x) (run (n x) (watched on m watch n (watch t b) w) y rest)) i
     later b w rest s t p (give a) ih u = never cc
     later b w rest s t p (before a) ih u = never cc
     later b w rest s t p (refuse y) ih u = let j : p ≡ p + suc (length w) = cc in absurd (omega (arith, j))
 
-    pub run_rescued : (w rest : List ℕ) (s : S) (t : T) (p : ℕ) {x : F} → run m s p (w ++ rest) ≡ refused x (p + length w) → run (rescue on m watch n) (trying s t) p (w ++ rest) ≡ ran (rescuing x) (run (n x) ((watched on m watch n) t w) (p + length w) rest)
+    pub run_rescued : (w rest : List ℕ) (s : S) (t : T) (p : ℕ) {x : F} → run m s p (w ++ rest) ≡ refused x (p + length w) → run (rescue on m watch n) (trying s t) p (w ++ rest) ≡ ran (rescuing x) (run (n x) (watched on m watch n t w) (p + length w) rest)
     run_rescued [] [] s t p e = never cc
     run_rescued [] (b ∷ rest) s t p {x} e =
         let i : p + 0 ≡ p = omega arith in
@@ -72,7 +72,7 @@ module _ {S T A F : Type 0} (on : Bool) (m : Step S A F) (watch : T → ℕ → 
   rescued_move P f (before a) h = tt
   rescued_move P f (refuse x) h = h
 
-  caught_move : (P : F → Type 0) (t : T) (v : Move S A F) (k : F → Move T A F) → Refusal P v → ((e : F) → Refusal P (k e)) → Refusal P ((caught on m watch n) t v k)
+  caught_move : (P : F → Type 0) (t : T) (v : Move S A F) (k : F → Move T A F) → Refusal P v → ((e : F) → Refusal P (k e)) → Refusal P (caught on m watch n t v k)
   caught_move P t (keep s) k h i = tt
   caught_move P t (give a) k h i = tt
   caught_move P t (before a) k h i = tt

@@ -39,7 +39,7 @@ pub record Rules : Type 0 where
   -- a line that is no field line is passed over, and says nothing
   pub ignore_invalid_headers : Bool
 
--- the RFCs' grammar alone, without what the prose of RFC 9112, section 2.2, lets a recipient do besides (lf-alone, empty-lines); of a target
+-- the RFCs' grammar alone, without what the prose of RFC 9112, section 2.2, lets a recipient do besides (lf_alone, empty_lines); of a target
 -- no more is asked than that it is visible, and a code has one of its classes
 abbrev pub strict : Rules
 strict = record {
