@@ -1,0 +1,12 @@
+-- The call tells what an exact reader answers, and so keeps its promises.
+-- Assumes nothing.
+use Rattle.std.proofs.Common.{rules}
+use Rattle.agreement.specs.Starts.{response_fixed}
+use Rattle.agreement.proofs.Calls.{response_promise, response_fault}
+use Rattle.calls.proofs.response.Goals as goal
+
+pub returns-clause-head_promise : goal.returns-clause-head_promise
+returns-clause-head_promise c = search (rules, response_promise, response_fixed)
+
+pub returns-clause-fault_promise : goal.returns-clause-fault_promise
+returns-clause-fault_promise c = search (rules, response_fault)
