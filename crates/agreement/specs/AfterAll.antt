@@ -1,5 +1,5 @@
 -- A NUL in a line that is passed over, or a CR without LF, is an error after all: that of a name where the line was wrong before its colon, and of a value behind it.
--- Assumes nothing.
+-- The theorems stand in proofs/AfterAll.antt. Assumes nothing.
 use Rattle.std.specs.Prelude.{ℕ, List}
 use Rattle.rules.specs.Rules.{Rules}
 use Rattle.parts.specs.declared.Error.{Error}

@@ -1,5 +1,5 @@
 -- The readers of the calls are exact for the grammar, and so the calls keep their promises.
--- Assumes nothing.
+-- The theorems stand in proofs/Calls.antt. Assumes nothing.
 use Rattle.std.specs.Prelude.{ℕ, List, []}
 use Rattle.rules.specs.Rules.{default}
 use Rattle.blocks.specs.Block.{Blocks, block}

@@ -1,5 +1,5 @@
 -- Between the name of each header that is given and its colon stand spaces and tabs where they are allowed, and nothing else.
--- Assumes nothing.
+-- The theorems stand in proofs/Colons.antt. Assumes nothing.
 use Rattle.std.specs.Prelude.{ℕ, zero, suc, ◌+◌, ◌<◌, ◌≡◌, List, Bool, length, drop, get_or}
 use Rattle.rules.specs.Rules.{Rules}
 use Rattle.names.specs.Colon.{NameToColon}

@@ -1,5 +1,5 @@
 -- A reader of heads with n slots, against what the grammar calls a head: the laws from which the promises follow.
--- Assumes nothing.
+-- The theorems stand in proofs/Exactly.antt. Assumes nothing.
 use Rattle.std.specs.Prelude.{ℕ, ◌≤◌, ◌<◌, ◌≡◌, List, ◌++◌, length, take}
 use Rattle.reader.specs.Machine.{Step}
 use Rattle.reader.specs.Answer.{got, bad}

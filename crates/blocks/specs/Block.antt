@@ -1,5 +1,5 @@
 -- The header block: lines up to the empty one, each header of which takes a slot.
--- Assumes nothing.
+-- The theorems stand in proofs/BlockRead.antt. Assumes nothing.
 use Rattle.std.specs.Prelude.{ℕ, ◌*◌, ◌≤◌, ◌≡◌, List, [], ◌∷◌, ◌++◌, Bool, true, false, ◌&&◌, cond, ltb, length}
 use Rattle.reader.specs.Machine.{Step, run_at}
 use Rattle.reader.specs.Judged.{Verdict, pass, fail, judged}

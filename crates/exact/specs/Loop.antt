@@ -1,5 +1,5 @@
 -- An exact machine again and again is exact for its relation again and again.
--- Assumes nothing.
+-- The theorems stand in proofs/Loop.antt. Assumes nothing.
 use Rattle.std.specs.Prelude.{ℕ, ◌+◌, List, ◌++◌, length}
 use Rattle.reader.specs.Loop.{Turn, again, done}
 use Rattle.exact.specs.Exact.{Relation}

@@ -1,5 +1,5 @@
 -- A machine that refuses exactly where a relation holds: of the position, the bytes before the one that is refused, what it is refused with, and the bytes from that one on.
--- Assumes nothing.
+-- The theorems stand in proofs/Refusing.antt. Assumes nothing.
 use Rattle.std.specs.Prelude.{ℕ, ◌+◌, ◌≡◌, List, ◌++◌, length}
 use Rattle.reader.specs.Machine.{refused, Step, run}
 use Rattle.reader.specs.Loop.{Turn, again}

@@ -1,5 +1,5 @@
 -- One exact machine after another is exact for one relation after the other.
--- Assumes nothing.
+-- The theorems stand in proofs/Seq.antt. Assumes nothing.
 use Rattle.std.specs.Prelude.{ℕ, ◌+◌, ◌≡◌, List, ◌++◌, length}
 use Rattle.exact.specs.Exact.{Relation}
 

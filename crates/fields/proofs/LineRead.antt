@@ -77,7 +77,7 @@ module _ (r : Rules) (xs : List ℕ) where
       pub tried_got : {k : Kind} {q : ℕ} → field r xs at ≡ got k q → line r xs at ≡ got k q
       tried_got e = line_tried b ∙ ap (answer nothing) (run_good r.ignore_invalid_headers (field_step r) behind_byte (ignored_step r) (drop at xs) (first (first none)) (first tt) at (answered nothing _ e))
 
-      pub tried_short : (field r xs) at ≡ short tt → line r xs at ≡ short tt
+      pub tried_short : field r xs at ≡ short tt → line r xs at ≡ short tt
       tried_short e = let w = answered_short nothing _ e in line_tried b ∙ ap (answer nothing) (run_waiting r.ignore_invalid_headers (field_step r) behind_byte (ignored_step r) (drop at xs) (first (first none)) (first tt) at w.1)
 
       pub tried_off : r.ignore_invalid_headers ≡ false → {x : Fault} → field r xs at ≡ bad x → line r xs at ≡ bad x

@@ -1,5 +1,5 @@
 -- One line of a header block: a field line (RFC 9112, 5), or the empty line that ends the head.
--- Assumes nothing.
+-- The theorems stand in proofs/LineRead.antt. Assumes nothing.
 use Rattle.std.specs.Prelude.{ℕ, List, Bool, ◌&&◌, ◌||◌, eqb}
 use Rattle.reader.specs.Machine.{Step}
 use Rattle.reader.specs.Judged.{pass, judged}

@@ -1,5 +1,5 @@
 -- What the machines of a field line refuse with: the byte that is wrong, in its place, in a name or in a value.
--- Assumes nothing.
+-- The theorems stand in proofs/Wrong.antt. Assumes nothing.
 use Rattle.std.specs.Prelude.{ℕ, ◌≡◌}
 use Rattle.parts.specs.declared.Error.{Error}
 use Rattle.parts.specs.declared.Error.TheVariants.{HeaderName, HeaderValue, NewLine, Status, Token, TooManyHeaders, Version}

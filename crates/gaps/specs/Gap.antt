@@ -1,5 +1,5 @@
 -- A gap: bytes of a class that are passed over before a part is read, as many as there are, which may be none.
--- Assumes nothing.
+-- The theorems stand in proofs/Gap.antt. Assumes nothing.
 use Rattle.std.specs.Prelude.{ℕ, suc, ◌+◌, List, [], ◌∷◌, Bool, ◌&&◌, cond, eqb, drop}
 use Rattle.reader.specs.Machine.{keep, before, Step}
 use Rattle.reader.specs.Seq.{Then, seq}

@@ -1,5 +1,5 @@
--- The line before a chunk of a body: RFC 9112, section 7.1. A definition with another name than a rule of the RFC is a part of the one whose
--- section it cites. Left out are the bytes of a chunk and the trailer section.
+-- The line before a chunk of a body: RFC 9112, section 7.1. The RFC's rules keep their names, with Is before one in small letters; a definition
+-- with another name is a part of the rule whose section it cites. Left out are the bytes of a chunk and the trailer section.
 -- Assumes nothing.
 use Rattle.std.specs.Prelude.{ℕ, ◌+◌, ◌-◌, ◌*◌, ◌≤◌, ◌≡◌, List, [], ◌∷◌, ◌++◌, true, length}
 use Rattle.octets.specs.Grammar.{HEXDIG}

@@ -1,5 +1,6 @@
--- The head of a message: RFC 9112, sections 2 to 5, over the rules of a reading. A definition with another name than a rule of the RFC is
--- a part of the one whose section it cites. Left out are the body, with the fields that say how long it is, and what a Host field must be.
+-- The head of a message: RFC 9112, sections 2 to 5, over the rules of a reading. The RFC's rules keep their names, with Is before one in small
+-- letters; a definition with another name is a part of the rule whose section it cites. Left out are the body, with the fields that say how long
+-- it is, and what a Host field must be.
 -- Assumes nothing.
 use Rattle.std.specs.Prelude.{ℕ, ◌+◌, ◌-◌, ◌*◌, ◌≡◌, List, [], ◌∷◌, ◌++◌, Bool, true, false}
 use Rattle.octets.specs.Grammar.{Range, DIGIT, VCHAR, IsObsText, IsFieldVchar, IsTchar, IsBlank, IsText}

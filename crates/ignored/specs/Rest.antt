@@ -1,5 +1,5 @@
 -- The rest of a line that is passed over: bytes but NUL, CR and LF, and the line's end.
--- Assumes nothing.
+-- The theorems stand in proofs/RestOfLine.antt. Assumes nothing.
 use Rattle.std.specs.Prelude.{ℕ, ◌-◌, ◌≤◌, ◌<◌, ◌≡◌, ◌⊎◌, List, Bool, ◌&&◌, ◌||◌, not, cond, eqb, ltb, length, get_or}
 use Rattle.reader.specs.Machine.{Step}
 use Rattle.reader.specs.Seq.{first, second}

@@ -1,6 +1,6 @@
 -- Two readers of the same bytes, of which one has more settings on and slots enough, do not disagree about what the other accepts: where the head
 -- ends, and what is in it. Where the other passes over lines this asks that no setting makes something else of them.
--- Assumes nothing.
+-- The theorems stand in proofs/Agree.antt. Assumes nothing.
 use Rattle.std.specs.Prelude.{ℕ, ◌≡◌, List, true}
 use Rattle.rules.specs.declared.Settings.{Settings}
 use Rattle.grammar.specs.Fields.{Field}

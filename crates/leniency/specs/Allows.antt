@@ -1,6 +1,6 @@
 -- When the lines around a start line may be by some rules whatever they may be by others: what is derived by these is then derived by those, where
 -- lines that these pass over are nothing else by those.
--- Assumes nothing.
+-- The theorems stand in proofs/Allows.antt. Assumes nothing.
 use Rattle.std.specs.Prelude.{◌≡◌, true}
 use Rattle.rules.specs.Rules.{Rules}
 

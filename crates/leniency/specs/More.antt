@@ -1,7 +1,7 @@
 -- With more settings on more is allowed and nothing is lost: a head is then one with the same fields. Of a response this asks that its reason
 -- begins with no space, since where several spaces stand before a reason none of them is of it; and where lines are passed over it asks that no
 -- setting makes something else of them.
--- Assumes nothing.
+-- The theorems stand in proofs/More.antt. Assumes nothing.
 use Rattle.std.specs.Prelude.{ℕ, ◌≡◌, List, ◌∷◌, true, false}
 use Rattle.rules.specs.declared.Settings.{Settings}
 use Rattle.rules.specs.Rules.{Rules}

@@ -1,6 +1,6 @@
 -- What each of the five settings for spaces and folds lets stand somewhere does not stand there without it; and with none of them, and no line
 -- passed over, the grammar is what it was before there were settings.
--- Assumes nothing.
+-- The theorems stand in proofs/Off.antt. Assumes nothing.
 use Rattle.std.specs.Prelude.{◌≡◌, false}
 use Rattle.rules.specs.Rules.{Rules}
 

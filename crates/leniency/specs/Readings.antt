@@ -1,5 +1,5 @@
 -- Two heads that say something else with a setting than without it, or what none says without it, and one that then ends elsewhere.
--- Assumes nothing.
+-- The theorems stand in proofs/Readings.antt. Assumes nothing.
 use Rattle.std.specs.Prelude.{ℕ, List, Bool, true, false}
 use Rattle.rules.specs.declared.Settings.{Settings}
 use Rattle.grammar.specs.Fields.{Field}

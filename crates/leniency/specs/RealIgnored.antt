@@ -1,5 +1,5 @@
 -- The rule that passes over lines makes a difference: two byte strings of its entry in docs/DIFFERENCES.md, a request and a response, are heads with it and not without it.
--- Assumes nothing.
+-- The theorems stand in proofs/RealIgnored.antt. Assumes nothing.
 use Rattle.grammar.specs.Message.{RequestLine}
 use Rattle.leniency.specs.Text.{ascii}
 

@@ -1,6 +1,6 @@
 -- The five settings for spaces and folds and the one that passes over lines let nothing more be said, but for values with line ends in them: what
 -- a head says with some of them on a head says with all of them off.
--- Assumes nothing.
+-- The theorems stand in proofs/Said.antt. Assumes nothing.
 use Rattle.std.specs.Prelude.{false}
 use Rattle.rules.specs.Rules.{Rules}
 

@@ -1,6 +1,6 @@
 -- Plain ASCII targets are the default with one rule changed, in both directions (of the other settings Off, More and Said speak); and with all
 -- settings off the readers and the definition are the default's.
--- Assumes nothing.
+-- The theorems stand in proofs/Settings.antt. Assumes nothing.
 use Rattle.std.specs.Prelude.{Bool, true, false}
 use Rattle.rules.specs.Rules.{Rules}
 use Rattle.rules.specs.Settings.{changed}

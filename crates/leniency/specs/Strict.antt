@@ -1,6 +1,6 @@
 -- What is derived under `strict` is derived under `default` with the same fields, where the restrictions known_versions, obs_reason
 -- and sixteen_digits take nothing away.
--- Assumes nothing.
+-- The theorems stand in proofs/Strict.antt. Assumes nothing.
 use Rattle.std.specs.Prelude.{ℕ, ◌≤◌, ◌≡◌, ◌⊎◌, List, [], ◌∷◌, ◌++◌, length}
 use Rattle.octets.specs.Grammar.{HEXDIG, IsObsText}
 use Rattle.grammar.specs.Rows.{Many}

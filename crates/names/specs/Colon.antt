@@ -1,5 +1,5 @@
 -- What stands between a header's name and its colon (RFC 9112, 5.1): spaces and tabs where they are allowed, and nothing else.
--- Assumes nothing.
+-- The theorems stand in proofs/ToColon.antt. Assumes nothing.
 use Rattle.std.specs.Prelude.{ℕ, ◌+◌, ◌≤◌, ◌<◌, ◌≡◌, List, Bool, true, length, get_or}
 use Rattle.reader.specs.Answer.{got}
 use Rattle.octets.specs.Class.{is_token}

@@ -1,5 +1,5 @@
 -- What is not lost where invalid lines are ignored: a block line by line, in bytes.
--- Assumes nothing.
+-- The theorems stand in proofs/Ignored.antt. Assumes nothing.
 use Rattle.std.specs.Prelude.{ℕ, ◌≡◌, List, [], ◌∷◌, ◌++◌, Bool, true, false, length}
 use Rattle.octets.specs.Grammar.{IsBlank}
 use Rattle.rules.specs.Rules.{Rules}

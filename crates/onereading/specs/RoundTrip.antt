@@ -1,6 +1,6 @@
 -- What was read can be written; a call on what was written is complete at its end and gives the same fields back; and written again
 -- these are the same bytes.
--- Assumes nothing.
+-- The theorems stand in proofs/RoundTrip.antt. Assumes nothing.
 use Rattle.std.specs.Prelude.{ℕ, List}
 use Rattle.rules.specs.Rules.{Rules, default}
 use Rattle.grammar.specs.Message.{IsRequestTarget, IsRequestHead, IsResponseHead}

@@ -1,5 +1,5 @@
 -- Heads in a row: the same bytes are no two rows of heads, and reading them from each end on gives exactly those heads.
--- Assumes nothing.
+-- The theorems stand in proofs/Rows.antt. Assumes nothing.
 use Rattle.std.specs.Prelude.{ℕ, ◌≡◌, List, ◌∷◌, ◌++◌}
 use Rattle.grammar.specs.Fields.{Field}
 

@@ -7,7 +7,7 @@ use Rattle.reader.specs.Bytes.{drop_tail}
 use Rattle.reader.specs.Loop.{Fresh, Turn, again, done, loop, round, turned}
 
 module _ {A S B F : Type 0} (start : A → S) where
-  module _ (m : A → Step S (Turn A B) F) (fresh : (Fresh start) m) where
+  module _ (m : A → Step S (Turn A B) F) (fresh : Fresh start m) where
     twice : (a : A) (v : Move S (Turn A B) F) → ((a' : A) → v ≡ before (again a') → ⊥) → (k k' : A → Move (A × S) B F) → turned start a v k ≡ turned start a v k'
     twice a (keep s) never k k' = refl
     twice a (give (again x)) never k k' = refl

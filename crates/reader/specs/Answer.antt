@@ -1,5 +1,5 @@
 -- What a run answers, told without its states: what a function over the whole input can say of it.
--- Assumes nothing.
+-- The theorems stand in proofs/Answer.antt. Assumes nothing.
 use Rattle.std.specs.Prelude.{ℕ}
 use Rattle.reader.specs.Machine.{Run, more, gave, refused, Step}
 use Rattle.reader.specs.Judged.{Verdict, pass, fail}

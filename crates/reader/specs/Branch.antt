@@ -1,5 +1,5 @@
 -- One of two machines, by the first byte.
--- Assumes nothing.
+-- The theorems stand in proofs/Branch.antt. Assumes nothing.
 use Rattle.std.specs.Prelude.{Bool, cond, ℕ}
 use Rattle.reader.specs.Machine.{Step}
 use Rattle.reader.specs.Lifted.{lifted}

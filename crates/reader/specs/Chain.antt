@@ -1,5 +1,5 @@
 -- A part in a row of parts: what is known before it stands in its refusals and where the bytes run out, and its answer adds to it.
--- Assumes nothing.
+-- The theorems stand in proofs/Chain.antt. Assumes nothing.
 use Rattle.std.specs.Prelude.{List, ℕ}
 use Rattle.reader.specs.Machine.{Step, run_at}
 use Rattle.reader.specs.Judged.{pass, judged}

@@ -1,5 +1,5 @@
 -- The byte that decides a run: before it the machine waits, and with it the answer or the refusal is there.
--- Assumes nothing.
+-- The theorems stand in proofs/Decided.antt. Assumes nothing.
 use Rattle.std.specs.Prelude.{ℕ}
 use Rattle.reader.specs.Machine.{Move, keep, give, before, refuse, Step}
 

@@ -1,5 +1,5 @@
 -- What a machine answers on the start of an input, and on all of it: the same, unless it was still waiting.
--- Assumes nothing.
+-- The theorems stand in proofs/Later.antt. Assumes nothing.
 use Rattle.reader.specs.Answer.{Answer, short}
 
 pub data Later {U A F : Type 0} : Answer U A F → Answer U A F → Type 0 where

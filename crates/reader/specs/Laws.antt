@@ -1,5 +1,5 @@
 -- The laws of one machine's runs: a step, the end, more bytes, and where an answer or a refusal lies.
--- Assumes nothing.
+-- The theorems stand in proofs/Laws.antt. Assumes nothing.
 use Rattle.std.specs.Prelude.{List, ℕ}
 use Rattle.reader.specs.Machine.{Run, more, gave, refused, Step, run}
 

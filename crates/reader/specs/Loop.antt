@@ -1,5 +1,5 @@
 -- A machine again and again: each lap answers what the next one starts from, or the end.
--- Assumes nothing.
+-- The theorems stand in proofs/Loop.antt. Assumes nothing.
 use Rattle.std.specs.Prelude.{◌≡◌, ℕ}
 use Rattle.reader.specs.Machine.{Move, keep, give, before, refuse, Run, more, gave, refused, Step}
 

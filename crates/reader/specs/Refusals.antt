@@ -1,5 +1,5 @@
 -- What a machine refuses with, and where: what holds of each move's refusal and its position holds of each run's, and so for machines made of such machines.
--- Assumes nothing.
+-- The theorems stand in proofs/Refusals.antt. Assumes nothing.
 use Rattle.std.specs.Prelude.{ℕ}
 use Rattle.reader.specs.Machine.{Move, keep, give, before, refuse, Step}
 

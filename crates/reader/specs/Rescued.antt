@@ -1,5 +1,5 @@
 -- A machine whose refusals another takes over where that is wanted, from the byte on that was refused, and told what was seen of those before it.
--- Assumes nothing.
+-- The theorems stand in proofs/Rescued.antt. Assumes nothing.
 use Rattle.std.specs.Prelude.{List, [], ◌∷◌, Bool, cond, ℕ}
 use Rattle.reader.specs.Machine.{Move, keep, give, before, refuse, Step}
 use Rattle.reader.specs.Lifted.{lifted}

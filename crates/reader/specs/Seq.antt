@@ -1,5 +1,5 @@
 -- One machine after another: the second starts where the first answered, and knows its answer.
--- Assumes nothing.
+-- The theorems stand in proofs/Seq.antt. Assumes nothing.
 use Rattle.std.specs.Prelude.{ℕ}
 use Rattle.reader.specs.Machine.{Move, keep, give, before, refuse, Run, more, gave, refused, Step}
 use Rattle.reader.specs.Lifted.{lifted, ran}

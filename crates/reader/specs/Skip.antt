@@ -1,5 +1,5 @@
 -- Where a row of bytes of a class ends, and a machine that such bytes leave in its state.
--- Assumes nothing.
+-- The theorems stand in proofs/Skip.antt. Assumes nothing.
 use Rattle.std.specs.Prelude.{◌≡◌, List, Bool, true, false, ℕ, ◌≤◌, ◌<◌, length, get_or}
 
 -- the bytes from i up to r are of the class

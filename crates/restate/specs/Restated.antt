@@ -1,5 +1,5 @@
 -- What restating an input comes to: the plain form of the head at its start, wherever there is one that fits.
--- Assumes nothing.
+-- The theorems stand in proofs/Restated.antt. Assumes nothing.
 use Rattle.std.specs.Prelude.{ℕ, ◌≤◌, ◌<◌, ◌≡◌, List, ◌++◌, length, drop}
 use Rattle.rules.specs.declared.Settings.{Settings}
 use Rattle.rules.specs.Rules.{default}

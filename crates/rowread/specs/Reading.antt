@@ -1,5 +1,5 @@
 -- Reading a row: what the next head comes to, and what is kept from one to the next.
--- Assumes nothing.
+-- The theorems stand in proofs/Reading.antt. Assumes nothing.
 use Rattle.std.specs.Prelude.{ℕ, ◌/◌, ◌≤◌, ◌<◌, ◌≡◌, List, ◌++◌, length, drop}
 use Rattle.grammar.specs.Fields.{Field}
 use Rattle.parts.specs.declared.Error.TheVariants.{TooManyHeaders}
