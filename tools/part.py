@@ -7,7 +7,6 @@ A must-fail edit of a definition counts only where no lemma that rests on anothe
 follow. It goes by text, so rt check decides. A definition inside a module with parameters of its own is cited with these in the lemmas.
 """
 
-import collections
 import glob
 import os
 import re

@@ -1,2 +1,2 @@
-// The readers of whole heads against the definition: all of it definitions and laws, in specs/.
+// The readers of whole heads against the definition: all of it definitions and laws, in specs/ and proofs/.
 #![tactic(auto)]

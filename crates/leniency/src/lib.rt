@@ -1,2 +1,2 @@
-// What the rules beyond the RFCs' grammar add and take away: all of it theorems, in specs/.
+// What the rules beyond the RFCs' grammar add and take away: all of it theorems, in specs/ and proofs/.
 #![tactic(auto)]

@@ -1,2 +1,2 @@
-// One reading only: answers that never change, one derivation, heads in a row, and the way to the plain form and back: theorems, in specs/.
+// One reading only: answers that never change, one derivation, heads in a row, and the way to the plain form and back: theorems, in specs/ and proofs/.
 #![tactic(auto)]
