@@ -1,6 +1,6 @@
 -- The readers of the calls are exact for the grammar, and so the calls keep their promises.
 -- Assumes nothing.
-use Rattle.std.specs.Prelude.{ℕ, ◌+◌, ◌-◌, ◌/◌, ◌≤◌, ◌≡◌, refl, List, [], ◌++◌, true, false, length, take}
+use Rattle.std.specs.Prelude.{ℕ, ◌+◌, ◌-◌, ◌/◌, ◌≤◌, ◌≡◌, refl, List, [], ◌++◌, true, false, length, take, Err, Ok}
 use Rattle.std.proofs.Common.{arith, sym, ap, subst, ◌∙◌}
 use Rattle.reader.specs.Tests.{never}
 use Rattle.reader.specs.Seq.{first}
@@ -12,9 +12,9 @@ use Rattle.rules.specs.Settings.{request_rules, response_rules}
 use Rattle.grammar.specs.Fields.{Field}
 use Rattle.grammar.specs.Message.{IsHeaderBlock, IsRequestLine, IsRequestHead, IsStatusLine, IsResponseHead}
 use Rattle.parts.specs.declared.Fault.{Fault}
-use Rattle.parts.specs.declared.Passed.{Passed}
-use Rattle.parts.specs.declared.Passed.TheVariants.{At, More, Bad}
+use Rattle.parts.specs.declared.Unread.TheVariants.{More, Bad}
 use Rattle.parts.specs.EmptyLines.{start}
+use Rattle.parts.specs.Answers.{Passed}
 use Rattle.fields.specs.declared.Header.{Header}
 use Rattle.blocks.specs.declared.Block.{Block}
 use Rattle.blocks.specs.Slots.{filled}
@@ -142,9 +142,9 @@ module _ (r : Rules) {s old : List ℕ} {end : Passed} {count : ℕ} {new : List
   response_fault T = fault_promise (response_at r (length old / 4)) T
 
 tell_alone : (end : Passed) (hs : List Header) → tell end (tt, hs) ≡ alone (blocks.tell end hs)
-tell_alone (At q) hs = refl
-tell_alone More hs = refl
-tell_alone (Bad e) hs = refl
+tell_alone (Ok q) hs = refl
+tell_alone (Err More) hs = refl
+tell_alone (Err (Bad e)) hs = refl
 
 pub alone_told : {b : Blocks} {r : Block} {old new : List ℕ} → blocks.Told b r old new → Told (alone b) r.end tt r.count old new
 alone_told {b} {r} {old} T =

@@ -1,24 +1,23 @@
 -- What a chunk size line's call answers keeps its promise.
 -- Assumes nothing.
-use Rattle.std.specs.Prelude.{ℕ, ◌≡◌, List, ◌++◌, length}
+use Rattle.std.specs.Prelude.{ℕ, ◌≡◌, List, ◌++◌, length, Err, Ok}
 use Rattle.std.proofs.Common.{sym, ap, ◌∙◌}
 use Rattle.reader.specs.Answer.{got, short, bad, answer}
 use Rattle.reader.proofs.Answer.{answered, bad_stays}
 use Rattle.reader.specs.Chain.{nothing}
 use Rattle.reader.specs.Tests.{never}
 use Rattle.rules.specs.Rules.{default}
-use Rattle.chunks.specs.Chunk.{digits, chunk_step, chunk, size_of}
-use Rattle.chunks.specs.declared.ChunkSize.{ChunkSize}
-use Rattle.chunks.specs.declared.ChunkSize.TheVariants as sizes
+use Rattle.parts.specs.declared.Unread.TheVariants.{More, Bad}
+use Rattle.chunks.specs.Chunk.{ChunkSize, digits, chunk_step, chunk, size_of}
 use Rattle.agreement.specs.Promises.{ChunkPromise, SizeFaultPromise}
 use Rattle.agreement.proofs.Decided.{chunk_fault}
 use Rattle.agreement.specs.ChunkDerived.{chunk_derived}
 use Rattle.agreement.specs.ChunkRead.{from, chunk_read}
 
-size_got : (r : ChunkSize) {n q : ℕ} → size_of r ≡ got n q → r ≡ sizes.Complete q n
-size_got (sizes.Complete q n) e = cc
-size_got sizes.Incomplete e = never cc
-size_got (sizes.Invalid p) e = never cc
+size_got : (r : ChunkSize) {n q : ℕ} → size_of r ≡ got n q → r ≡ Ok (n, q)
+size_got (Ok (m, p)) e = cc
+size_got (Err More) e = never cc
+size_got (Err (Bad p)) e = never cc
 
 module _ {s : List ℕ} {r : ChunkSize} (T : size_of r ≡ chunk default s) where
   pub chunk_promise : ChunkPromise s r

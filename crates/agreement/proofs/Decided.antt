@@ -22,10 +22,10 @@ use Rattle.gaps.specs.Gap.{gap_step}
 use Rattle.parts.specs.declared.Error.{Error}
 use Rattle.parts.specs.declared.Error.TheVariants.{NewLine, Status, Token, TooManyHeaders, Version}
 use Rattle.parts.specs.declared.Fault.{Fault}
-use Rattle.parts.specs.declared.Passed.{Passed}
 use Rattle.parts.specs.LineEnd.{begin, line_end_step}
 use Rattle.parts.specs.LineEnd as lineends
 use Rattle.parts.specs.EmptyLines.{empty_lines_step}
+use Rattle.parts.specs.Answers.{Passed}
 use Rattle.words.specs.Word.{none, word_step}
 use Rattle.versions.specs.Version.{name, version_step}
 use Rattle.spaces.specs.Space.{space_step, behind_code_step}

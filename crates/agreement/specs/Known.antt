@@ -1,27 +1,24 @@
 -- What a call has told of a start line and put into the slots, in the grammar's words.
 -- Assumes nothing.
-use Rattle.std.specs.Prelude.{ℕ, zero, suc, ◌+◌, ◌≤◌, ◌≡◌, List, [], ◌∷◌, length, take, drop, get_or}
+use Rattle.std.specs.Prelude.{ℕ, zero, suc, ◌+◌, ◌≤◌, ◌≡◌, List, [], ◌∷◌, length, take, drop, get_or, None, Option, Some}
 use Rattle.rules.specs.Rules.{Rules}
 use Rattle.grammar.specs.Rows.{Many}
 use Rattle.grammar.specs.Fields.{IsFieldName, Field}
 use Rattle.grammar.specs.Message as grammar
-use Rattle.startline.specs.declared.KnownPiece.{KnownPiece}
-use Rattle.startline.specs.declared.KnownPiece.TheVariants as pieces
-use Rattle.startline.specs.declared.KnownNumber.{KnownNumber}
-use Rattle.startline.specs.declared.KnownNumber.TheVariants as numbers
+use Rattle.parts.specs.declared.Piece.{Piece}
 use Rattle.requestline.specs.declared.RequestLine.{RequestLine}
 use Rattle.statusline.specs.declared.StatusLine.{StatusLine}
 use Rattle.agreement.specs.Places.{held}
 
 -- a piece is known, and its bytes are these
-abbrev pub Holds : List ℕ → KnownPiece → List ℕ → Type 0
-Holds z (pieces.Is a) w = held z a ≡ w
-Holds z pieces.NotYet w = ⊥
+abbrev pub Holds : List ℕ → Option Piece → List ℕ → Type 0
+Holds z (Some a) w = held z a ≡ w
+Holds z None w = ⊥
 
 -- a number is known, and is this
-abbrev pub Counts : KnownNumber → ℕ → Type 0
-Counts (numbers.Is a) n = a ≡ n
-Counts numbers.NotYet n = ⊥
+abbrev pub Counts : Option ℕ → ℕ → Type 0
+Counts (Some a) n = a ≡ n
+Counts None n = ⊥
 
 -- of a version the minor number is told; the major one is 1
 pub record RequestSays (z : List ℕ) (k : RequestLine) (g : grammar.RequestLine) : Type 0 where
@@ -35,9 +32,9 @@ pub record StatusSays (z : List ℕ) (k : StatusLine) (g : grammar.StatusLine) :
   pub reason : Holds z k.reason g.reason
 
 -- a known piece lies in the input, and its bytes are such
-abbrev pub Inside : (List ℕ → Type 0) → List ℕ → KnownPiece → Type 0
-Inside Such z (pieces.Is a) = (a.offset + a.length ≤ length z) × Such (held z a)
-Inside Such z pieces.NotYet = Unit {0}
+abbrev pub Inside : (List ℕ → Type 0) → List ℕ → Option Piece → Type 0
+Inside Such z (Some a) = (a.offset + a.length ≤ length z) × Such (held z a)
+Inside Such z None = Unit {0}
 
 pub record RequestInside (r : Rules) (z : List ℕ) (k : RequestLine) : Type 0 where
   pub method : Inside grammar.IsMethod z k.method

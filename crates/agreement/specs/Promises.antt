@@ -1,6 +1,6 @@
 -- What each call's answer means for every input s and all slots that are lent: in the grammar's words alone, and of an error where it lies.
 -- Assumes nothing.
-use Rattle.std.specs.Prelude.{ℕ, ◌+◌, ◌*◌, ◌/◌, ◌≤◌, ◌<◌, ◌≡◌, List, ◌∷◌, ◌++◌, true, false, length, take, drop}
+use Rattle.std.specs.Prelude.{ℕ, ◌+◌, ◌*◌, ◌/◌, ◌≤◌, ◌<◌, ◌≡◌, List, ◌∷◌, ◌++◌, true, false, length, take, drop, Err, Ok}
 use Rattle.reader.specs.Answer.{Answer, got, short, bad}
 use Rattle.octets.specs.Grammar.{IsBlank}
 use Rattle.rules.specs.Rules.{Rules, default}
@@ -9,14 +9,11 @@ use Rattle.grammar.specs.Message.{IsLineEnd, IsFieldLine, IsHeaderBlock}
 use Rattle.grammar.specs.Chunked.{IsChunkLine}
 use Rattle.parts.specs.declared.Error.TheVariants.{TooManyHeaders}
 use Rattle.parts.specs.declared.Fault.{Fault}
-use Rattle.parts.specs.Answers.{fault}
-use Rattle.parts.specs.declared.Passed.{Passed}
-use Rattle.parts.specs.declared.Passed.TheVariants.{At, More, Bad}
+use Rattle.parts.specs.Answers.{Passed, fault}
+use Rattle.parts.specs.declared.Unread.TheVariants.{More, Bad}
 use Rattle.fields.specs.declared.Header.{Header}
 use Rattle.heads.specs.Head.{Heads, Known}
-use Rattle.chunks.specs.declared.ChunkSize.{ChunkSize}
-use Rattle.chunks.specs.declared.ChunkSize.TheVariants as sizes
-use Rattle.chunks.specs.Chunk.{chunk}
+use Rattle.chunks.specs.Chunk.{ChunkSize, chunk}
 use Rattle.agreement.specs.Known.{fields_in, SlotsInside, AreFields}
 use Rattle.agreement.specs.Colons.{SlotsToColon}
 
@@ -34,19 +31,19 @@ pub record HeadAt {L K : Type 0} (Head : List ℕ → L → List Field → Type 
 -- and new are the slots before and after, four numbers each
 pub record HeadPromise {L K : Type 0} (r : Rules) (Head : List ℕ → L → List Field → Type 0) (Says : List ℕ → K → L → Type 0) (In : List ℕ → K → Type 0) (s old : List ℕ) (end : Passed) (line : K) (count : ℕ) (new : List ℕ) : Type 0 where
   -- nothing else is accepted: complete at q means that a head ends there, and that the places given hold its fields
-  pub complete : (q : ℕ) → end ≡ At q → HeadAt Head Says s q line (fields_in s count new)
+  pub complete : (q : ℕ) → end ≡ Ok q → HeadAt Head Says s q line (fields_in s count new)
   -- what is allowed is accepted: a head whose fields fit the slots, whatever follows it
-  pub accepts : (w t : List ℕ) (l : L) (fs : List Field) → s ≡ w ++ t → Head w l fs → length fs ≤ length old / 4 → (end ≡ At (length w)) × Says s line l × (fields_in s count new ≡ fs)
+  pub accepts : (w t : List ℕ) (l : L) (fs : List Field) → s ≡ w ++ t → Head w l fs → length fs ≤ length old / 4 → (end ≡ Ok (length w)) × Says s line l × (fields_in s count new ≡ fs)
   -- a head with more fields than slots is TooManyHeaders, and the fields that fit are given
-  pub too_many : (w t : List ℕ) (l : L) (fs : List Field) → s ≡ w ++ t → Head w l fs → length old / 4 < length fs → (p : ℕ) × (end ≡ Bad (fault TooManyHeaders p)) × Says s line l × (fields_in s count new ≡ take (length old / 4) fs)
+  pub too_many : (w t : List ℕ) (l : L) (fs : List Field) → s ≡ w ++ t → Head w l fs → length old / 4 < length fs → (p : ℕ) × (end ≡ Err (Bad (fault TooManyHeaders p))) × Says s line l × (fields_in s count new ≡ take (length old / 4) fs)
   -- an error means that no head that fits starts here, whatever bytes u follow
-  pub error : (x : Fault) → end ≡ Bad x → (u w t : List ℕ) (l : L) (fs : List Field) → s ++ u ≡ w ++ t → Head w l fs → length fs ≤ length old / 4 → ⊥
+  pub error : (x : Fault) → end ≡ Err (Bad x) → (u w t : List ℕ) (l : L) (fs : List Field) → s ++ u ≡ w ++ t → Head w l fs → length fs ≤ length old / 4 → ⊥
   -- an error other than TooManyHeaders means that no head starts here at all
-  pub error_at_all : (x : Fault) → end ≡ Bad x → (x.error ≡ TooManyHeaders → ⊥) → (u w t : List ℕ) (l : L) (fs : List Field) → s ++ u ≡ w ++ t → Head w l fs → ⊥
+  pub error_at_all : (x : Fault) → end ≡ Err (Bad x) → (x.error ≡ TooManyHeaders → ⊥) → (u w t : List ℕ) (l : L) (fs : List Field) → s ++ u ≡ w ++ t → Head w l fs → ⊥
   -- TooManyHeaders means that the slots are full
-  pub full : (x : Fault) → end ≡ Bad x → x.error ≡ TooManyHeaders → count ≡ length old / 4
+  pub full : (x : Fault) → end ≡ Err (Bad x) → x.error ≡ TooManyHeaders → count ≡ length old / 4
   -- incomplete means that no head has ended yet
-  pub incomplete : end ≡ More → (w t : List ℕ) (l : L) (fs : List Field) → s ≡ w ++ t → Head w l fs → ⊥
+  pub incomplete : end ≡ Err More → (w t : List ℕ) (l : L) (fs : List Field) → s ≡ w ++ t → Head w l fs → ⊥
   -- whatever the answer is, every place that is told lies in the input, and what is told of a start line is such
   pub inside : In s line × SlotsInside (length s) count new
   -- and the fields in the slots have names that are names and values that are values
@@ -102,7 +99,7 @@ pub record FaultAt {K : Type 0} (r : Rules) (n : ℕ) (read : List ℕ → Heads
 
 -- a call that ends in an error tells its position, where read is what the call answers by its reader with n slots
 pub record FaultPromise {K : Type 0} (r : Rules) (n : ℕ) (read : List ℕ → Heads K) (s : List ℕ) (end : Passed) : Type 0 where
-  pub placed : (x : Fault) → end ≡ Bad x → FaultAt r n read s x
+  pub placed : (x : Fault) → end ≡ Err (Bad x) → FaultAt r n read s x
 
 -- headers alone have no start line
 abbrev pub BlockAlone : List ℕ → Unit {0} → List Field → Type 0
@@ -117,13 +114,13 @@ LiesNowhere s k = Unit {0}
 -- the same of a chunk size line
 pub record ChunkPromise (s : List ℕ) (r : ChunkSize) : Type 0 where
   -- complete at q with size n means that such a line ends there
-  pub complete : (q n : ℕ) → r ≡ sizes.Complete q n → (w t : List ℕ) × (s ≡ w ++ t) × (q ≡ length w) × IsChunkLine default w n
+  pub complete : (q n : ℕ) → r ≡ Ok (n, q) → (w t : List ℕ) × (s ≡ w ++ t) × (q ≡ length w) × IsChunkLine default w n
   -- every such line is accepted, whatever follows it
-  pub accepts : (w t : List ℕ) (n : ℕ) → s ≡ w ++ t → IsChunkLine default w n → r ≡ sizes.Complete (length w) n
+  pub accepts : (w t : List ℕ) (n : ℕ) → s ≡ w ++ t → IsChunkLine default w n → r ≡ Ok (n, length w)
   -- an error means that none starts here, whatever bytes u follow
-  pub error : (p : ℕ) → r ≡ sizes.Invalid p → (u w t : List ℕ) (n : ℕ) → s ++ u ≡ w ++ t → IsChunkLine default w n → ⊥
+  pub error : (p : ℕ) → r ≡ Err (Bad p) → (u w t : List ℕ) (n : ℕ) → s ++ u ≡ w ++ t → IsChunkLine default w n → ⊥
   -- incomplete means that none has ended yet
-  pub incomplete : r ≡ sizes.Incomplete → (w t : List ℕ) (n : ℕ) → s ≡ w ++ t → IsChunkLine default w n → ⊥
+  pub incomplete : r ≡ Err More → (w t : List ℕ) (n : ℕ) → s ≡ w ++ t → IsChunkLine default w n → ⊥
 
 -- and of its error's position
 pub record SizeFaultAt (s : List ℕ) (p : ℕ) : Type 0 where
@@ -132,4 +129,4 @@ pub record SizeFaultAt (s : List ℕ) (p : ℕ) : Type 0 where
   pub there : (u : List ℕ) → chunk default (take (p + 1) s ++ u) ≡ bad p
 
 pub record SizeFaultPromise (s : List ℕ) (r : ChunkSize) : Type 0 where
-  pub placed : (p : ℕ) → r ≡ sizes.Invalid p → SizeFaultAt s p
+  pub placed : (p : ℕ) → r ≡ Err (Bad p) → SizeFaultAt s p

@@ -1,6 +1,6 @@
 -- The header block: lines up to the empty one, each header of which takes a slot.
 -- The theorems stand in proofs/BlockRead.antt. Assumes nothing.
-use Rattle.std.specs.Prelude.{ℕ, ◌*◌, ◌≤◌, ◌≡◌, List, [], ◌∷◌, ◌++◌, Bool, true, false, ◌&&◌, cond, ltb, length}
+use Rattle.std.specs.Prelude.{ℕ, ◌*◌, ◌≤◌, ◌≡◌, List, [], ◌∷◌, ◌++◌, Bool, true, false, ◌&&◌, cond, ltb, length, Err, Ok}
 use Rattle.reader.specs.Machine.{Step, run_at}
 use Rattle.reader.specs.Judged.{Verdict, pass, fail, judged}
 use Rattle.reader.specs.Seq.{first}
@@ -11,12 +11,11 @@ use Rattle.reader.specs.Branch.{fresh}
 use Rattle.gaps.specs.Gap.{Behind, blanks_if, behind_gap}
 use Rattle.parts.specs.declared.Error.TheVariants.{TooManyHeaders}
 use Rattle.parts.specs.declared.Fault.{Fault}
-use Rattle.parts.specs.declared.Passed.{Passed}
-use Rattle.parts.specs.declared.Passed.TheVariants as passes
+use Rattle.parts.specs.declared.Unread.TheVariants as unread
 use Rattle.rules.specs.Rules.{Rules}
 use Rattle.rules.specs.declared.LineSettings.{LineSettings}
 use Rattle.rules.specs.Settings.{line_rules}
-use Rattle.parts.specs.Answers.{fault}
+use Rattle.parts.specs.Answers.{Passed, fault}
 use Rattle.fields.specs.declared.Header.{Header}
 use Rattle.blocks.specs.declared.Block.{Block}
 use Rattle.fields.specs.Line.{Kind, header, end, ignored, LineState, line_step}
@@ -67,9 +66,9 @@ given (bad x) = x.1
 
 -- the code's answer, with the headers hs in the slots
 abbrev pub tell : Passed → List Header → Blocks
-tell (passes.At q) hs = got hs q
-tell passes.More hs = short hs
-tell (passes.Bad e) hs = bad (e, hs)
+tell (Ok q) hs = got hs q
+tell (Err unread.More) hs = short hs
+tell (Err (unread.Bad e)) hs = bad (e, hs)
 
 -- the code's answer, the count and the slots are what the reader says
 pub record Told (a : Blocks) (r : Block) (old new : List ℕ) : Type 0 where

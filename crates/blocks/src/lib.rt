@@ -1,12 +1,13 @@
 // The block of header lines up to the empty one, over slots that the caller lends.
 #![tactic(auto)]
 
-ghost use Rattle.std.specs.Prelude.{◌≡◌, [], ◌∷◌, ◌++◌, ◌+◌, ◌/◌, ◌≤◌, length, take, drop};
+ghost use Rattle.std.specs.Prelude.{◌≡◌, [], ◌++◌, ◌+◌, ◌/◌, ◌≤◌, length, take, drop};
 ghost use Rattle.rules.specs.Settings.{line_rules};
 ghost use Rattle.blocks.specs.Block.{block as block_at, Told};
+ghost use Rattle.blocks.specs.Slots.{numbers};
 
-use fields::Line;
-use parts::{Error, Fault, Passed};
+use fields::{Header, Line};
+use parts::{Error, Passed, Unread};
 use rules::LineSettings;
 
 // What reading the block comes to, and how many headers are in the slots.
@@ -16,72 +17,53 @@ pub struct Block {
     pub count: usize,
 }
 
-// Four numbers, from `at` on.
-fn put(slots: &mut [usize], at: usize, a: usize, b: usize, c: usize, d: usize)
+// A header's four numbers, from `at` on.
+fn put(slots: &mut [usize], at: usize, header: Header)
     requires { at + 4 ≤ length slots.old }
-    ensures { slots.new ≡ take at slots.old ++ (a ∷ b ∷ c ∷ d ∷ []) ++ drop (at + 4) slots.old }
+    ensures { slots.new ≡ take at slots.old ++ numbers header ++ drop (at + 4) slots.old }
 {
-    slots[at] = a;
-    slots[at + 1] = b;
-    slots[at + 2] = c;
-    slots[at + 3] = d;
+    let name = header.name;
+    let value = header.value;
+    slots[at..at + 4].copy_from_slice(&[name.offset, name.length, value.offset, value.length]);
+}
+
+// The lines from `at` to the empty one, of which `count` headers are in the slots.
+fn lines(
+    s: &[u8],
+    at: usize,
+    slots: &mut [usize],
+    count: &mut usize,
+    settings: LineSettings,
+) -> Passed
+    requires { count.old ≡ 0 }
+    ensures { Told (block_at (line_rules settings) (length slots.old / 4) [] s.now at) (record { end = result; count = count.new }) slots.old slots.new }
+{
+    let n = slots.len() / 4;
+    let mut i = at;
+    // each turn goes on behind the line before it, so no `for` counts them
+    loop {
+        let first = gaps::blanks(s, i, settings.space_before_first_name & (*count == 0));
+        let (line, next) = fields::header_line(s, first, settings)?;
+        match line {
+            Line::Header(header) => {
+                if n <= *count {
+                    return Err(Unread::bad(Error::TooManyHeaders, header.name.offset));
+                }
+                put(slots, *count * 4, header);
+                *count += 1;
+            }
+            Line::Ignored => {}
+            Line::End => return Ok(next),
+        }
+        i = next;
+    }
 }
 
 // The lines from `at` to the empty one. A header takes four numbers of `slots`; the rest of them is left as it was.
 pub fn header_block(s: &[u8], at: usize, slots: &mut [usize], settings: LineSettings) -> Block
     ensures { Told (block_at (line_rules settings) (length slots.old / 4) [] s.now at) result slots.old slots.new }
 {
-    let n = slots.len() / 4;
-    let mut i = at;
-    let mut count: usize = 0;
-    loop {
-        let first = gaps::blanks(s, i, settings.space_before_first_name & (count == 0));
-        let line = fields::header_line(s, first, settings);
-        match line {
-            Line::Header(header, next) => {
-                let name = header.name;
-                if n <= count {
-                    return Block {
-                        end: Passed::Bad(Fault {
-                            error: Error::TooManyHeaders,
-                            position: name.offset,
-                        }),
-                        count,
-                    };
-                }
-                let value = header.value;
-                put(
-                    slots,
-                    count * 4,
-                    name.offset,
-                    name.length,
-                    value.offset,
-                    value.length,
-                );
-                count += 1;
-                i = next;
-            }
-            Line::Ignored(next) => {
-                i = next;
-            }
-            Line::End(next) => {
-                return Block {
-                    end: Passed::At(next),
-                    count,
-                };
-            }
-            Line::More => {
-                return Block {
-                    end: Passed::More,
-                    count,
-                };
-            }
-            Line::Bad(e) => {
-                return Block {
-                    end: Passed::Bad(e),
-                    count,
-                };
-            }
-        }
-    }
+    let mut count = 0;
+    let end = lines(s, at, slots, &mut count, settings);
+    Block { end, count }
 }

@@ -18,23 +18,26 @@ ghost use Rattle.agreement.specs.Promises.{HeadPromise, FaultPromise, BlockAlone
 use blocks::Block;
 use chunks::ChunkSize;
 use heads::{RequestHead, ResponseHead};
+use requestline::RequestLine;
 use rules::Settings;
+use statusline::StatusLine;
 
-// A header takes four numbers of `slots`: where its name is, the name's length, where its value is, the value's length.
+// A header takes four numbers of `slots`, which C lends: where its name is, the name's length, where its value is, the value's length.
 pub fn request(s: &[u8], slots: &mut [usize], settings: Settings) -> RequestHead
     ensures told { Told (request_of (request_rules settings) (length slots.old / 4) s.now) result.end result.line result.count slots.old slots.new }
     ensures head_promise { HeadPromise (request_rules settings) (IsRequestHead (request_rules settings)) RequestSays (RequestInside (request_rules settings)) s.now slots.old result.end result.line result.count slots.new }
     ensures fault_promise { FaultPromise (request_rules settings) (length slots.old / 4) (request_of (request_rules settings) (length slots.old / 4)) s.now result.end }
 {
-    heads::request(s, slots, settings)
+    heads::read::<RequestLine>(s, slots, settings)
 }
 
+// No instance of one function with `request`: what each promises is what its callers read.
 pub fn response(s: &[u8], slots: &mut [usize], settings: Settings) -> ResponseHead
     ensures told { Told (response_of (response_rules settings) (length slots.old / 4) s.now) result.end result.line result.count slots.old slots.new }
     ensures head_promise { HeadPromise (response_rules settings) (IsResponseHead (response_rules settings)) StatusSays StatusInside s.now slots.old result.end result.line result.count slots.new }
     ensures fault_promise { FaultPromise (response_rules settings) (length slots.old / 4) (response_of (response_rules settings) (length slots.old / 4)) s.now result.end }
 {
-    heads::response(s, slots, settings)
+    heads::read::<StatusLine>(s, slots, settings)
 }
 
 pub fn headers(s: &[u8], slots: &mut [usize]) -> Block

@@ -1,6 +1,6 @@
 -- A chunk size line: at most sixteen hexadecimal digits, blanks, perhaps a semicolon and an extension of any bytes, then CR LF (RFC 9112, 7.1).
 -- Assumes nothing.
-use Rattle.std.specs.Prelude.{ℕ, ◌+◌, ◌-◌, ◌*◌, ◌^◌, ◌≤◌, ◌<◌, ◌≡◌, List, Bool, true, false, not, ◌&&◌, ◌||◌, cond, eqb, ltb, length, get_or}
+use Rattle.std.specs.Prelude.{ℕ, ◌+◌, ◌-◌, ◌*◌, ◌^◌, ◌≤◌, ◌<◌, ◌≡◌, List, Bool, true, false, not, ◌&&◌, ◌||◌, cond, eqb, ltb, length, get_or, Result}
 use Rattle.std.proofs.Common.{arith, add-one, pow-suc, ◌∙◌}
 use Rattle.std.proofs.Math.Nat.{pow-le-pow_right}
 use Rattle.std.proofs.Math.Path.{refl}
@@ -15,8 +15,9 @@ use Rattle.reader.specs.Chain.{reads}
 use Rattle.octets.specs.Class.{within, is_blank, is_digit, is_hex_digit}
 use Rattle.octets.specs.Table.{same}
 use Rattle.rules.specs.Rules.{Rules, default}
-use Rattle.chunks.specs.declared.ChunkSize.{ChunkSize}
-use Rattle.chunks.specs.declared.ChunkSize.TheVariants as sizes
+use Rattle.parts.specs.declared.Unread.{Unread}
+use Rattle.parts.specs.Answers.{read, stopped}
+use Rattle.parts.specs.Byte.{Is, IsPast}
 
 -- what a hexadecimal digit is worth: 0 to 9, A to F, a to f
 unfoldable pub worth : ℕ → ℕ
@@ -86,11 +87,12 @@ chunk_step r (cr v) p b = cond (eqb b 10) (give v) (refuse p)
 abbrev pub chunk : Rules → List ℕ → Answer (Unit {0}) ℕ ℕ
 chunk r xs = reads (chunk_step r) (digits 0 0) xs 0
 
--- the code's answer
+-- the code's answer: the size and the position behind it, that more is wanted, or the position of the wrong byte
+abbrev pub ChunkSize : Type 0
+ChunkSize = Result (ℕ × ℕ) (Unread ℕ)
+
 abbrev pub size_of : ChunkSize → Answer (Unit {0}) ℕ ℕ
-size_of (sizes.Complete q v) = got v q
-size_of sizes.Incomplete = short tt
-size_of (sizes.Invalid p) = bad p
+size_of = read
 
 -- a byte of an extension: any but CR
 unfoldable pub is_extension : ℕ → Bool
@@ -109,14 +111,15 @@ from c xs i = reads (chunk_step default) c xs i
 
 -- behind the CR
 module _ (v : ℕ) (xs : List ℕ) (i : ℕ) where
-  pub cr_none : length xs ≤ i → short tt ≡ from (cr v) xs i
-  cr_none h = rw (run_out (chunk_step default) (cr v) xs i h)
+  pub cr_none : {x : Unread ℕ} → IsPast xs i x → stopped x ≡ from (cr v) xs i
+  cr_none h = rw (h.more, run_out (chunk_step default) (cr v) xs i h.past)
 
-  pub cr_lf : i < length xs → get_or xs i 0 ≡ 10 → got v (i + 1) ≡ from (cr v) xs i
-  cr_lf h b = rw (run_in (chunk_step default) (cr v) xs i h, b)
+  module _ {b : ℕ} (h : Is xs i b) where
+    pub cr_lf : b ≡ 10 → got v (i + 1) ≡ from (cr v) xs i
+    cr_lf e = rw (run_in (chunk_step default) (cr v) xs i h.inside, ← h.there, e)
 
-  pub cr_bare : i < length xs → (get_or xs i 0 ≡ 10 → ⊥) → bad i ≡ from (cr v) xs i
-  cr_bare h b = rw (run_in (chunk_step default) (cr v) xs i h, ne_eqb _ _ b)
+    pub cr_bare : (b ≡ 10 → ⊥) → bad i ≡ from (cr v) xs i
+    cr_bare e = rw (run_in (chunk_step default) (cr v) xs i h.inside, ← h.there, ne_eqb _ _ e)
 
   -- in the extension
   module _ {r : ℕ} (k : Skipped is_extension xs i r) where
@@ -136,19 +139,21 @@ module _ (v : ℕ) (xs : List ℕ) (i : ℕ) where
     blanks_on : i ≤ length xs → run_at (chunk_step default) (blanks v) xs i ≡ run_at (chunk_step default) (blanks v) xs r
     blanks_on h = skip (chunk_step default) is_blank (blanks v) (λ q b e. rw e) xs h k.passed
 
-    pub blanks_cut : i ≤ length xs → length xs ≤ r → short tt ≡ from (blanks v) xs i
-    blanks_cut h l = rw (blanks_on h, run_out (chunk_step default) (blanks v) xs r l)
+    pub blanks_cut : i ≤ length xs → {x : Unread ℕ} → IsPast xs r x → stopped x ≡ from (blanks v) xs i
+    blanks_cut h l = rw (l.more, blanks_on h, run_out (chunk_step default) (blanks v) xs r l.past)
 
-    module _ (h : i ≤ length xs) (l : r < length xs) where
-      pub blanks_extension : get_or xs r 0 ≡ 59 → {z : Answer (Unit {0}) ℕ ℕ} → z ≡ from (extension v) xs (r + 1) → z ≡ from (blanks v) xs i
-      blanks_extension b e = rw (blanks_on h, run_in (chunk_step default) (blanks v) xs r l, k.stop l, eq-eqb _ _ b) e
+    module _ (h : i ≤ length xs) {b : ℕ} (l : Is xs r b) where
+      stop : is_blank b ≡ false
+      stop = rw l.there (k.stop l.inside)
 
-      module _ (n : get_or xs r 0 ≡ 59 → ⊥) where
-        pub blanks_cr : get_or xs r 0 ≡ 13 → {z : Answer (Unit {0}) ℕ ℕ} → z ≡ from (cr v) xs (r + 1) → z ≡ from (blanks v) xs i
-        blanks_cr b e = rw (blanks_on h, run_in (chunk_step default) (blanks v) xs r l, k.stop l, ne_eqb _ _ n, eq-eqb _ _ b) e
+      pub blanks_extension : b ≡ 59 → {z : Answer (Unit {0}) ℕ ℕ} → z ≡ from (extension v) xs (r + 1) → z ≡ from (blanks v) xs i
+      blanks_extension e g = rw (blanks_on h, run_in (chunk_step default) (blanks v) xs r l.inside, ← l.there, stop, eq-eqb _ _ e) g
 
-        pub blanks_bad : (get_or xs r 0 ≡ 13 → ⊥) → bad r ≡ from (blanks v) xs i
-        blanks_bad b = rw (blanks_on h, run_in (chunk_step default) (blanks v) xs r l, k.stop l, ne_eqb _ _ n, ne_eqb _ _ b)
+      pub blanks_cr : b ≡ 13 → {z : Answer (Unit {0}) ℕ ℕ} → z ≡ from (cr v) xs (r + 1) → z ≡ from (blanks v) xs i
+      blanks_cr e g = rw (blanks_on h, run_in (chunk_step default) (blanks v) xs r l.inside, ← l.there, stop, e) g
+
+      pub blanks_bad : (b ≡ 59 → ⊥) → (b ≡ 13 → ⊥) → bad r ≡ from (blanks v) xs i
+      blanks_bad n e = rw (blanks_on h, run_in (chunk_step default) (blanks v) xs r l.inside, ← l.there, stop, ne_eqb _ _ n, ne_eqb _ _ e)
 
 pub ruleset behinds = (cr_none, cr_lf, cr_bare, extension_cut, extension_end, blanks_cut, blanks_extension, blanks_cr, blanks_bad)
 

@@ -2,45 +2,38 @@
 #![tactic(auto)]
 
 ghost use Rattle.std.specs.Prelude.{◌≡◌, ◌≤◌, ◌<◌, length, true};
-ghost use Rattle.reader.specs.Skip.{Skipped};
 ghost use Rattle.octets.specs.Class.{is_hex_digit};
 ghost use Rattle.rules.specs.Rules.{default};
 ghost use Rattle.chunks.specs.Chunk.{Worth, is_extension, chunk, size_of, from, cr, extension as in_extension, blanks as in_blanks};
 
-// The position behind the line and the size; or more is wanted; or the byte at a position is wrong.
-#[derive(Drop)]
-pub enum ChunkSize {
-    Complete(usize, u64),
-    Incomplete,
-    Invalid(usize),
-}
+use octets::{Blank, Class, HexDigit};
+use parts::Unread;
+
+// The size and the position behind the line; or more is wanted; or the byte at a position is wrong.
+pub type ChunkSize = Result<(u64, usize), Unread<usize>>;
 
 // The LF behind a CR.
+#[tactic(auto, using(crate::specs::Chunk::behinds))]
 fn line_feed(s: &[u8], at: usize, size: u64) -> ChunkSize
     ensures { size_of result ≡ from (cr size) s.now at }
 {
-    if s.len() <= at {
-        return ChunkSize::Incomplete;
-    }
-    if s[at] == 10 {
-        ChunkSize::Complete(at + 1, size)
+    if parts::byte(s, at)? == b'\n' {
+        Ok((size, at + 1))
     } else {
-        ChunkSize::Invalid(at)
+        Err(Unread::Bad(at))
     }
 }
 
-// Where an extension ends: at its CR.
-fn skip_extension(s: &[u8], at: usize) -> usize
-    ensures { Skipped is_extension s.now at result }
-{
-    let mut i = at;
-    while i < s.len() {
-        if s[i] == 13 {
-            return i;
-        }
-        i += 1;
+// The bytes of an extension: any but the CR that ends it.
+struct ExtensionByte;
+
+impl Class for ExtensionByte {
+    ghost holds = { is_extension };
+
+    #[tactic(auto, unfolding(crate::specs::Chunk::is_extension))]
+    fn holds(b: u8) -> bool {
+        b != 13
     }
-    i
 }
 
 // An extension of any bytes, and the line's end.
@@ -48,9 +41,9 @@ fn extension(s: &[u8], at: usize, size: u64) -> ChunkSize
     requires { at ≤ length s.now }
     ensures { size_of result ≡ from (in_extension size) s.now at }
 {
-    let end = skip_extension(s, at);
+    let end = skips::skip_each::<ExtensionByte>(s, at);
     if s.len() <= end {
-        return ChunkSize::Incomplete;
+        return Err(Unread::More);
     }
     line_feed(s, end + 1, size)
 }
@@ -60,24 +53,12 @@ fn behind_digits(s: &[u8], at: usize, size: u64) -> ChunkSize
     requires { at ≤ length s.now }
     ensures { size_of result ≡ from (in_blanks size) s.now at }
 {
-    let next = skips::skip_blank(s, at);
-    if s.len() <= next {
-        return ChunkSize::Incomplete;
+    let next = skips::skip_each::<Blank>(s, at);
+    match parts::byte(s, next)? {
+        b';' => extension(s, next + 1, size),
+        b'\r' => line_feed(s, next + 1, size),
+        _ => Err(Unread::Bad(next)),
     }
-    if s[next] == 59 {
-        return extension(s, next + 1, size);
-    }
-    if s[next] == 13 {
-        line_feed(s, next + 1, size)
-    } else {
-        ChunkSize::Invalid(next)
-    }
-}
-
-fn wide(b: u8) -> u64
-    ensures { result ≡ b }
-{
-    b as u64
 }
 
 // What a hexadecimal digit is worth.
@@ -85,31 +66,28 @@ fn worth_of(b: u8) -> u64
     requires { is_hex_digit b ≡ true }
     ensures { Worth b result }
 {
-    if b < 0x41 {
-        return wide(b - 0x30);
+    if b < b'A' {
+        return u64::from(b - b'0');
     }
-    if b < 0x61 {
-        return wide(b - 0x37);
+    if b < b'a' {
+        return u64::from(b - 0x37);
     }
-    wide(b - 0x57)
+    u64::from(b - 0x57)
 }
 
 // A chunk size line, from the start of the input.
 pub fn chunk_size(s: &[u8]) -> ChunkSize
     ensures { size_of result ≡ chunk default s.now }
 {
-    let mut i = 0;
     let mut size: u64 = 0;
-    while i < s.len() {
-        let b = s[i];
-        if !octets::is_hex_digit(b) {
+    for (i, b) in s.iter().enumerate() {
+        if !HexDigit::holds(*b) {
             return behind_digits(s, i, size);
         }
         if 16 <= i {
-            return ChunkSize::Invalid(i);
+            return Err(Unread::Bad(i));
         }
-        size = size * 16 + worth_of(b);
-        i += 1;
+        size = size * 16 + worth_of(*b);
     }
-    ChunkSize::Incomplete
+    Err(Unread::More)
 }

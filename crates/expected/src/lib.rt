@@ -1,7 +1,10 @@
 // What was expected where an error lies, a sentence each.
 #![tactic(auto)]
 
-use page::text::{Page, put};
+ghost use Rattle.std.specs.Prelude.{Some};
+ghost use Rattle.expected.specs.Sentences.{in_header, in_request_line, in_size, in_status_line, sentence};
+
+use std::fmt;
 
 #[derive(Clone, Copy)]
 pub enum Expected {
@@ -70,173 +73,105 @@ pub enum InSize {
     BehindDigits,
 }
 
-pub fn sentence(page: &mut Page, at: usize, expected: Expected) -> usize {
-    match expected {
-        Expected::LineFeed => put(
-            page,
-            at,
-            b"LF (shown as \\n), since a CR (shown as \\r) stands before it\n",
-        ),
-        Expected::Request(place) => in_request_line(page, at, place),
-        Expected::Status(place) => in_status_line(page, at, place),
-        Expected::Header(place) => in_header(page, at, place),
-        Expected::Size(place) => in_size(page, at, place),
+impl fmt::Display for Expected {
+    ghost output = { λ expected. Some (sentence expected) };
+
+    fn fmt<W: fmt::Write>(&self, f: &mut fmt::Formatter<W>) -> fmt::Result {
+        match self {
+            Expected::LineFeed => f.write_str(
+                "LF (shown as \\n), since a CR (shown as \\r) stands before it",
+            ),
+            Expected::Request(place) => write!(f, "{place}"),
+            Expected::Status(place) => write!(f, "{place}"),
+            Expected::Header(place) => write!(f, "{place}"),
+            Expected::Size(place) => write!(f, "{place}"),
+        }
     }
 }
 
-fn in_request_line(page: &mut Page, at: usize, place: InRequestLine) -> usize {
-    match place {
-        InRequestLine::MethodStart => put(
-            page,
-            at,
-            b"a method, such as POST, in letters, digits and !#$%&'*+-.^_`|~\n",
-        ),
-        InRequestLine::Method => put(
-            page,
-            at,
-            b"more of the method, in letters, digits and !#$%&'*+-.^_`|~, or a space behind it\n",
-        ),
-        InRequestLine::TargetStart => put(
-            page,
-            at,
-            b"a target, such as /orders; a second space here makes it empty\n",
-        ),
-        InRequestLine::SpacedTarget => put(
-            page,
-            at,
-            b"another space, or a target with no control byte in it\n",
-        ),
-        InRequestLine::Target => put(
-            page,
-            at,
-            b"a target with no blank and no control byte in it, and a space behind it\n",
-        ),
-        InRequestLine::AsciiTarget => put(
-            page,
-            at,
-            b"a target in visible ASCII, as --ascii-targets asks, and a space behind it\n",
-        ),
-        InRequestLine::Utf8Target => put(
-            page,
-            at,
-            b"a target in UTF-8 before this space, and what stands there is not UTF-8\n",
-        ),
-        InRequestLine::Version => put(
-            page,
-            at,
-            b"HTTP/1.0 or HTTP/1.1, right behind the one space that ends the target\n",
-        ),
-        InRequestLine::SpacedVersion => put(
-            page,
-            at,
-            b"HTTP/1.0 or HTTP/1.1, behind one space or more\n",
-        ),
-        InRequestLine::LineEnd => put(
-            page,
-            at,
-            b"the line's end, CR LF (shown as \\r\\n), right behind the version\n",
-        ),
+impl fmt::Display for InRequestLine {
+    ghost output = { λ place. Some (in_request_line place) };
+
+    fn fmt<W: fmt::Write>(&self, f: &mut fmt::Formatter<W>) -> fmt::Result {
+        f.write_str(match self {
+            InRequestLine::MethodStart =>
+                "a method, such as POST, in letters, digits and !#$%&'*+-.^_`|~",
+            InRequestLine::Method =>
+                "more of the method, in letters, digits and !#$%&'*+-.^_`|~, or a space behind it",
+            InRequestLine::TargetStart =>
+                "a target, such as /orders; a second space here makes it empty",
+            InRequestLine::SpacedTarget => "another space, or a target with no control byte in it",
+            InRequestLine::Target =>
+                "a target with no blank and no control byte in it, and a space behind it",
+            InRequestLine::AsciiTarget =>
+                "a target in visible ASCII, as --ascii-targets asks, and a space behind it",
+            InRequestLine::Utf8Target =>
+                "a target in UTF-8 before this space, and what stands there is not UTF-8",
+            InRequestLine::Version =>
+                "HTTP/1.0 or HTTP/1.1, right behind the one space that ends the target",
+            InRequestLine::SpacedVersion => "HTTP/1.0 or HTTP/1.1, behind one space or more",
+            InRequestLine::LineEnd =>
+                "the line's end, CR LF (shown as \\r\\n), right behind the version",
+        })
     }
 }
 
-fn in_status_line(page: &mut Page, at: usize, place: InStatusLine) -> usize {
-    match place {
-        InStatusLine::Version => put(
-            page,
-            at,
-            b"HTTP/1.0 or HTTP/1.1, at the start of the line\n",
-        ),
-        InStatusLine::Space => put(page, at, b"a space between the version and the code\n"),
-        InStatusLine::Digit => put(
-            page,
-            at,
-            b"a digit, since the code is three digits, right behind one space\n",
-        ),
-        InStatusLine::SpacedDigit => put(
-            page,
-            at,
-            b"a digit, since the code is three digits, behind one space or more\n",
-        ),
-        InStatusLine::BehindCode => put(
-            page,
-            at,
-            b"a space and the reason, or the line's end, right behind the three digits of the code\n",
-        ),
-        InStatusLine::Reason => put(
-            page,
-            at,
-            b"more of the reason, with no control byte but the tab, or the line's end, CR LF (shown as \\r\\n)\n",
-        ),
+impl fmt::Display for InStatusLine {
+    ghost output = { λ place. Some (in_status_line place) };
+
+    fn fmt<W: fmt::Write>(&self, f: &mut fmt::Formatter<W>) -> fmt::Result {
+        f.write_str(match self {
+            InStatusLine::Version => "HTTP/1.0 or HTTP/1.1, at the start of the line",
+            InStatusLine::Space => "a space between the version and the code",
+            InStatusLine::Digit =>
+                "a digit, since the code is three digits, right behind one space",
+            InStatusLine::SpacedDigit =>
+                "a digit, since the code is three digits, behind one space or more",
+            InStatusLine::BehindCode =>
+                "a space and the reason, or the line's end, right behind the three digits of the code",
+            InStatusLine::Reason =>
+                "more of the reason, with no control byte but the tab, or the line's end, CR LF (shown as \\r\\n)",
+        })
     }
 }
 
-fn in_header(page: &mut Page, at: usize, place: InHeader) -> usize {
-    match place {
-        InHeader::Start => put(
-            page,
-            at,
-            b"a header's name, or the empty line that ends the headers\n",
-        ),
-        InHeader::SpacedStart => put(
-            page,
-            at,
-            b"a blank, the first header's name, or the empty line that ends the headers\n",
-        ),
-        InHeader::StartOrMore => put(
-            page,
-            at,
-            b"a header's name, a blank and more of the value above, or the empty line that ends the headers\n",
-        ),
-        InHeader::Name => put(
-            page,
-            at,
-            b"the colon, with no blank before it, or more of the name, in letters, digits and !#$%&'*+-.^_`|~\n",
-        ),
-        InHeader::SpacedName => put(
-            page,
-            at,
-            b"the colon, a blank, or more of the name, in letters, digits and !#$%&'*+-.^_`|~\n",
-        ),
-        InHeader::Colon => put(page, at, b"the colon, or another blank before it\n"),
-        InHeader::Value => put(
-            page,
-            at,
-            b"more of the value, with no control byte but the tab, or the line's end, CR LF (shown as \\r\\n)\n",
-        ),
-        InHeader::NoNul => put(
-            page,
-            at,
-            b"any byte but NUL (shown as \\x00), since --ignore-invalid-headers passes over no line with one in it\n",
-        ),
-        InHeader::NoMore => put(
-            page,
-            at,
-            b"the empty line that ends the headers, since headread keeps 100 and this is one more\n",
-        ),
+impl fmt::Display for InHeader {
+    ghost output = { λ place. Some (in_header place) };
+
+    fn fmt<W: fmt::Write>(&self, f: &mut fmt::Formatter<W>) -> fmt::Result {
+        f.write_str(match self {
+            InHeader::Start => "a header's name, or the empty line that ends the headers",
+            InHeader::SpacedStart =>
+                "a blank, the first header's name, or the empty line that ends the headers",
+            InHeader::StartOrMore =>
+                "a header's name, a blank and more of the value above, or the empty line that ends the headers",
+            InHeader::Name =>
+                "the colon, with no blank before it, or more of the name, in letters, digits and !#$%&'*+-.^_`|~",
+            InHeader::SpacedName =>
+                "the colon, a blank, or more of the name, in letters, digits and !#$%&'*+-.^_`|~",
+            InHeader::Colon => "the colon, or another blank before it",
+            InHeader::Value =>
+                "more of the value, with no control byte but the tab, or the line's end, CR LF (shown as \\r\\n)",
+            InHeader::NoNul =>
+                "any byte but NUL (shown as \\x00), since --ignore-invalid-headers passes over no line with one in it",
+            InHeader::NoMore =>
+                "the empty line that ends the headers, since headread keeps 100 and this is one more",
+        })
     }
 }
 
-fn in_size(page: &mut Page, at: usize, place: InSize) -> usize {
-    match place {
-        InSize::Start => put(
-            page,
-            at,
-            b"the size, in hexadecimal digits: 0 to 9, a to f or A to F\n",
-        ),
-        InSize::Digit => put(
-            page,
-            at,
-            b"a hexadecimal digit, or behind the digits a blank, a ; or the line's end, CR LF (shown as \\r\\n)\n",
-        ),
-        InSize::NoMoreDigits => put(
-            page,
-            at,
-            b"a blank, a ; or the line's end, CR LF (shown as \\r\\n), since a size has at most 16 digits\n",
-        ),
-        InSize::BehindDigits => put(
-            page,
-            at,
-            b"a blank, a ; or the line's end, CR LF (shown as \\r\\n), behind the digits\n",
-        ),
+impl fmt::Display for InSize {
+    ghost output = { λ place. Some (in_size place) };
+
+    fn fmt<W: fmt::Write>(&self, f: &mut fmt::Formatter<W>) -> fmt::Result {
+        f.write_str(match self {
+            InSize::Start => "the size, in hexadecimal digits: 0 to 9, a to f or A to F",
+            InSize::Digit =>
+                "a hexadecimal digit, or behind the digits a blank, a ; or the line's end, CR LF (shown as \\r\\n)",
+            InSize::NoMoreDigits =>
+                "a blank, a ; or the line's end, CR LF (shown as \\r\\n), since a size has at most 16 digits",
+            InSize::BehindDigits =>
+                "a blank, a ; or the line's end, CR LF (shown as \\r\\n), behind the digits",
+        })
     }
 }

@@ -1,7 +1,8 @@
 -- One line of a header block: a field line (RFC 9112, 5), or the empty line that ends the head.
 -- Assumes nothing.
-use Rattle.std.specs.Prelude.{ℕ, zero, suc, ◌+◌, ◌-◌, ◌≤◌, ◌<◌, ◌≡◌, refl, List, [], ◌∷◌, Bool, true, false, ◌&&◌, cond, not, eqb, length, get_or, take, drop}
+use Rattle.std.specs.Prelude.{ℕ, zero, suc, ◌+◌, ◌-◌, ◌≤◌, ◌<◌, ◌≡◌, refl, List, [], ◌∷◌, Bool, true, false, ◌&&◌, cond, not, eqb, length, get_or, take, drop, Ok, Err}
 use Rattle.std.proofs.Common.{arith, sym, ap, ◌∙◌, length-drop, take-append-drop, length-take-le, drop-drop, lt-ltb, le-ltb}
+use Rattle.std.specs.Result.{IsErrAnd}
 use Rattle.std.proofs.Math.Decide.{dec_lt}
 use Rattle.std.proofs.lemmas.Bool.{not-true, not-false}
 use Rattle.reader.specs.Machine.{Move, keep, give, before, refuse, gave, refused, after, run, run_at}
@@ -27,22 +28,22 @@ use Rattle.gaps.specs.Gap.{Behind}
 use Rattle.parts.specs.declared.Fault.{Fault}
 use Rattle.parts.specs.declared.Error.TheVariants.{HeaderName, NewLine}
 use Rattle.parts.specs.declared.Piece.{Piece}
-use Rattle.parts.specs.declared.Passed.{Passed}
-use Rattle.parts.specs.Answers.{fault, passed}
+use Rattle.parts.specs.declared.Unread.{Unread}
+use Rattle.parts.specs.declared.Unread.TheVariants.{More, Bad}
+use Rattle.parts.specs.Answers.{Read, fault, stopped}
+use Rattle.parts.specs.Byte.{Is, IsPast}
 use Rattle.rules.specs.Rules.{Rules, default}
 use Rattle.rules.specs.declared.LineSettings.{LineSettings}
 use Rattle.rules.specs.Settings.{line_rules}
 use Rattle.parts.specs.LineEnd.{LineEnd, begin, cr, line_end_step, line_end}
 use Rattle.octets.specs.Class.{is_token}
 use Rattle.names.specs.Name.{Colon, none, some, gap_colon, name_step, name}
-use Rattle.fields.specs.declared.Header.{Header}
 use Rattle.fields.specs.declared.Line.{Line}
-use Rattle.fields.specs.declared.Line.TheVariants as lines
 use Rattle.folds.specs.Folded.{LinesState, lines_step, value_lines}
-use Rattle.ignored.specs.Rest.{is_ignorable, rest_step, behind_byte, seen, rest_of_line}
+use Rattle.ignored.specs.Rest.{is_ignorable, rest_step, behind_byte, seen}
 use Rattle.fields.specs.Wrong.{blamed, Wrong}
 use Rattle.fields.proofs.Wrong.{name_refuses, lines_refuses}
-use Rattle.fields.specs.Line.{Kind, LineState, TriedState, end, ends, field, field_step, header, ignored, ignored_step, line, line_of, line_step, named, onward, tried_step, untried}
+use Rattle.fields.specs.Line.{Kind, LiesIn, LineState, TriedState, end, ends, field, field_step, ignored, ignored_step, line, line_of, line_step, named, onward, rest_of, tried_step, untried}
 
 -- it refuses with the byte that is wrong
 pub field_refuses : (r : Rules) → Refuses Wrong (field_step r)
@@ -169,51 +170,52 @@ module _ (r : Rules) (p : ℕ) where
           let h = from (line_step r fresh p (get_or xs p 0)) (line_taken (get_or xs p 0)) (sym (run_in (line_step r) fresh xs p l) ∙ all) in
           (omega (arith, h), omega (arith, gave_within (line_step r) (drop p xs) fresh p all, length-drop p xs, l))
 
+-- what a `?` hands on is why the line was not read
+pub line_stopped : (m : Read Line) (e : Unread Fault) {y : Answer (Unit {0}) Kind Fault} → IsErrAnd m (λ d. d ≡ e) → stopped e ≡ y → line_of m ≡ y
+line_stopped (Ok l) e h g = absurd h
+line_stopped (Err d) e h g = rw h g
+
 -- with the settings of lines: no setting changes the empty line
 module _ (settings : LineSettings) (xs : List ℕ) (at : ℕ) where
-  pub line_none : length xs ≤ at → short tt ≡ line (line_rules settings) xs at
-  line_none h = sym (branch_none (ends default) (judged (λ _. pass end) (λ e. e) (line_end_step default NewLine)) begin (tried_step (line_rules settings)) untried nothing xs at h)
+  pub line_none : {x : Unread Fault} → IsPast xs at x → stopped x ≡ line (line_rules settings) xs at
+  line_none h = rw h.more (sym (branch_none (ends default) (judged (λ _. pass end) (λ e. e) (line_end_step default NewLine)) begin (tried_step (line_rules settings)) untried nothing xs at h.past))
 
-  pub line_ended : {z : Answer (Unit {0}) Kind Fault} → at < length xs → ends default (get_or xs at 0) ≡ true → z ≡ ended end (line_end default NewLine xs at) → z ≡ line (line_rules settings) xs at
-  line_ended h b e = e ∙ sym (line_end_parts (line_rules settings) xs at h b)
+  module _ {b : ℕ} (h : Is xs at b) where
+    pub line_ended : ends default b ≡ true → {z : Answer (Unit {0}) Kind Fault} → z ≡ ended end (line_end default NewLine xs at) → z ≡ line (line_rules settings) xs at
+    line_ended t e = e ∙ sym (line_end_parts (line_rules settings) xs at h.inside (rw (← h.there) t))
 
-  -- where the first byte is of no line's end
-  module _ (h : at < length xs) (b : ends default (get_or xs at 0) ≡ false) where
-    pub line_field : not settings.ignore_invalid_headers ≡ true → {z : Answer (Unit {0}) Kind Fault} → z ≡ and (name (line_rules settings) xs at) (onward (line_rules settings) xs) → z ≡ line (line_rules settings) xs at
-    line_field o {z} e = by z (field_parts (line_rules settings) xs at ∙ sym e)
-      where
-        by : (a : Answer (Unit {0}) Kind Fault) → field (line_rules settings) xs at ≡ a → a ≡ line (line_rules settings) xs at
-        by (got k q) i = sym (tried_got (line_rules settings) xs at h b i)
-        by (short u) i = sym (tried_short (line_rules settings) xs at h b i)
-        by (bad x) i = sym (tried_off (line_rules settings) xs at h b (not-true settings.ignore_invalid_headers o) i)
+    -- where the first byte is of no line's end
+    module _ (t : ends default b ≡ false) where
+      there : ends default (get_or xs at 0) ≡ false
+      there = rw (← h.there) t
 
-    -- l is what was read, and c what the arm took it for
-    module _ {l : Line} where
-      is_field : {c : Line} → line_of l ≡ and (name (line_rules settings) xs at) (onward (line_rules settings) xs) → l ≡ c → field (line_rules settings) xs at ≡ line_of c
-      is_field e i = field_parts (line_rules settings) xs at ∙ sym e ∙ ap line_of i
+      pub line_field : not settings.ignore_invalid_headers ≡ true → {z : Answer (Unit {0}) Kind Fault} → z ≡ and (name (line_rules settings) xs at) (onward (line_rules settings) xs) → z ≡ line (line_rules settings) xs at
+      line_field o {z} e = by z (field_parts (line_rules settings) xs at ∙ sym e)
+        where
+          by : (a : Answer (Unit {0}) Kind Fault) → field (line_rules settings) xs at ≡ a → a ≡ line (line_rules settings) xs at
+          by (got k q) i = sym (tried_got (line_rules settings) xs at h.inside there i)
+          by (short u) i = sym (tried_short (line_rules settings) xs at h.inside there i)
+          by (bad x) i = sym (tried_off (line_rules settings) xs at h.inside there (not-true settings.ignore_invalid_headers o) i)
 
-      module _ (e : line_of l ≡ and (name (line_rules settings) xs at) (onward (line_rules settings) xs)) where
-        pub kept_header : {g : Header} {q : ℕ} → l ≡ lines.Header g q → got (header g) q ≡ line (line_rules settings) xs at
-        kept_header i = sym (tried_got (line_rules settings) xs at h b (is_field e i))
+      -- l is what was read of a name and a value
+      module _ {l : Read Line} (e : line_of l ≡ and (name (line_rules settings) xs at) (onward (line_rules settings) xs)) where
+        is_field : {m : Read Line} → l ≡ m → field (line_rules settings) xs at ≡ line_of m
+        is_field i = field_parts (line_rules settings) xs at ∙ sym e ∙ ap line_of i
 
-        pub kept_end : {q : ℕ} → l ≡ lines.End q → got end q ≡ line (line_rules settings) xs at
-        kept_end i = sym (tried_got (line_rules settings) xs at h b (is_field e i))
+        -- what is not wrong is told as it is
+        pub kept_line : {p : Line × ℕ} → l ≡ Ok p → line_of l ≡ line (line_rules settings) xs at
+        kept_line i = rw i (sym (tried_got (line_rules settings) xs at h.inside there (is_field i)))
 
-        pub kept_ignored : {q : ℕ} → l ≡ lines.Ignored q → got ignored q ≡ line (line_rules settings) xs at
-        kept_ignored i = sym (tried_got (line_rules settings) xs at h b (is_field e i))
+        -- and what is wrong is passed over
+        pub line_over : not settings.ignore_invalid_headers ≡ false → {y : Unread Fault} → l ≡ Err y → (m : Read Line) → (LiesIn xs y → line_of m ≡ rest_of y xs at) → line_of m ≡ line (line_rules settings) xs at
+        line_over o {y} i m g = by y (is_field i) g
+          where
+            by : (y : Unread Fault) → field (line_rules settings) xs at ≡ stopped y → (LiesIn xs y → line_of m ≡ rest_of y xs at) → line_of m ≡ line (line_rules settings) xs at
+            by More f g = g tt ∙ sym (tried_short (line_rules settings) xs at h.inside there f)
+            by (Bad x) f g =
+                let w = answered_bad nothing _ f in
+                let place : x.position ≡ w.0 = (refused_is Wrong (field_step (line_rules settings)) (field_refuses (line_rules settings)) (drop at xs) (first (first none)) at x w.0 w.1).there in
+                let inside : x.position ≤ length xs = omega (arith, place, refused_within (field_step (line_rules settings)) (drop at xs) (first (first none)) at w.1, length-drop at xs) in
+                g inside ∙ sym (tried_on (line_rules settings) xs at h.inside there (not-false settings.ignore_invalid_headers o) f)
 
-        pub kept_more : l ≡ lines.More → short tt ≡ line (line_rules settings) xs at
-        kept_more i = sym (tried_short (line_rules settings) xs at h b (is_field e i))
-
-        module _ {x : Fault} (i : l ≡ lines.Bad x) where
-          inside : x.position ≤ length xs
-          inside =
-              let w = answered_bad nothing _ (is_field e i) in
-              let place : x.position ≡ w.0 = (refused_is Wrong (field_step (line_rules settings)) (field_refuses (line_rules settings)) (drop at xs) (first (first none)) at x w.0 w.1).there in
-              omega (arith, place, refused_within (field_step (line_rules settings)) (drop at xs) (first (first none)) at w.1, length-drop at xs)
-
-          -- p is the end of the line that is passed over, and d what the arm took it for
-          pub line_ignored : not settings.ignore_invalid_headers ≡ false → {p d : Passed} → (x.position ≤ length xs → passed p ≡ rest_of_line x.error xs at x.position) → p ≡ d → {z : Answer (Unit {0}) Kind Fault} → z ≡ ended ignored (passed d) → z ≡ line (line_rules settings) xs at
-          line_ignored o g k u = u ∙ ap (λ y. ended ignored (passed y)) (sym k) ∙ ap (ended ignored) (g inside) ∙ sym (tried_on (line_rules settings) xs at h b (not-false settings.ignore_invalid_headers o) (is_field e i))
-
-pub ruleset fields = (line_none, line_ended, line_field, kept_header, kept_end, kept_ignored, kept_more, line_ignored)
+pub ruleset fields = (line_none, line_ended, line_field, kept_line, line_over)

@@ -1,11 +1,11 @@
 -- One line of a header block: a field line (RFC 9112, 5), or the empty line that ends the head.
 -- The theorems stand in proofs/LineRead.antt. Assumes nothing.
-use Rattle.std.specs.Prelude.{ℕ, List, Bool, ◌&&◌, ◌||◌, eqb}
+use Rattle.std.specs.Prelude.{ℕ, List, Bool, ◌&&◌, ◌||◌, eqb, ◌≤◌, length, Ok, Err}
 use Rattle.reader.specs.Machine.{Step}
 use Rattle.reader.specs.Judged.{pass, judged}
 use Rattle.reader.specs.Seq.{Then, first, seq}
-use Rattle.reader.specs.Answer.{Answer, got, short, bad, and}
-use Rattle.reader.specs.Chain.{reads}
+use Rattle.reader.specs.Answer.{Answer, got, short, and}
+use Rattle.reader.specs.Chain.{reads, ended}
 use Rattle.reader.specs.Branch.{Branch, fresh, branch}
 use Rattle.reader.specs.Rescued.{Rescued, trying, rescue}
 use Rattle.gaps.specs.Gap.{Behind}
@@ -13,13 +13,16 @@ use Rattle.parts.specs.declared.Fault.{Fault}
 use Rattle.parts.specs.declared.Error.TheVariants.{NewLine}
 use Rattle.parts.specs.declared.Piece.{Piece}
 use Rattle.rules.specs.Rules.{Rules}
+use Rattle.parts.specs.declared.Unread.{Unread}
+use Rattle.parts.specs.declared.Unread.TheVariants.{More, Bad}
+use Rattle.parts.specs.Answers.{Read, stopped}
 use Rattle.parts.specs.LineEnd.{LineEnd, begin, line_end_step}
 use Rattle.names.specs.Name.{Name, none, name_step}
 use Rattle.fields.specs.declared.Header.{Header}
 use Rattle.fields.specs.declared.Line.{Line}
 use Rattle.fields.specs.declared.Line.TheVariants as lines
 use Rattle.folds.specs.Folded.{LinesState, lines_step, value_lines}
-use Rattle.ignored.specs.Rest.{rest_step, behind_byte}
+use Rattle.ignored.specs.Rest.{rest_step, behind_byte, rest_of_line}
 use Rattle.fields.specs.Wrong.{blamed}
 
 -- what a line is
@@ -65,12 +68,23 @@ abbrev pub line : Rules → List ℕ → ℕ → Answer (Unit {0}) Kind Fault
 line r xs at = reads (line_step r) fresh xs at
 
 -- the code's answer
-abbrev pub line_of : Line → Answer (Unit {0}) Kind Fault
-line_of (lines.Header h q) = got (header h) q
-line_of (lines.End q) = got end q
-line_of (lines.Ignored q) = got ignored q
-line_of lines.More = short tt
-line_of (lines.Bad e) = bad e
+abbrev pub kind_of : Line → Kind
+kind_of (lines.Header h) = header h
+kind_of lines.Ignored = ignored
+kind_of lines.End = end
+
+abbrev pub line_of : Read Line → Answer (Unit {0}) Kind Fault
+line_of (Ok l) = got (kind_of l.0) l.1
+line_of (Err x) = stopped x
+
+-- what a line comes to that is passed over where a byte of it is wrong
+abbrev pub rest_of : Unread Fault → List ℕ → ℕ → Answer (Unit {0}) Kind Fault
+rest_of More xs at = short tt
+rest_of (Bad x) xs at = ended ignored (rest_of_line x.error xs at x.position)
+
+abbrev pub LiesIn : List ℕ → Unread Fault → Type 0
+LiesIn xs More = Unit {0}
+LiesIn xs (Bad x) = x.position ≤ length xs
 
 -- a line by its parts
 module _ (r : Rules) (xs : List ℕ) where

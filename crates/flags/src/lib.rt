@@ -1,14 +1,24 @@
 // Eight bytes as one number, the first lowest: how many of them, from the first on, are surely of a class.
 #![tactic(auto)]
 
-ghost use Rattle.std.specs.Prelude.{◌≡◌};
-ghost use Rattle.octets.specs.Class.{is_ascii, is_target, is_token, is_value, is_visible};
+ghost use Rattle.std.specs.Prelude.{◌≡◌, ◌≤◌};
 ghost use Rattle.flags.specs.Sure.{flags, clear as clear_of, Sure};
-ghost use Rattle.flags.specs.Classes.{not_target, not_token, not_value, not_visible};
+ghost use Rattle.flags.specs.Test.{at_word, both, either, high, least, none};
+ghost use Rattle.flags.specs.Classes.{not_token};
+
+use octets::{Ascii, Class, Target, Token, Value, Visible};
+
+// A class that is told of eight bytes at once: those before the first that it doubts.
+pub trait Eights: Class {
+    fn sure(x: u64) -> usize
+        ensures { Sure Self.holds x result };
+}
 
 const LOW: u64 = 0x7f7f_7f7f_7f7f_7f7f;
 
 const FLAGS: u64 = 0x8080_8080_8080_8080;
+
+const ONES: u64 = 0x0101_0101_0101_0101;
 
 // How many bytes stand before the first that has a flag: all eight, if none has, which is tested apart since callers go on from there.
 fn clear(flags: u64) -> usize
@@ -17,10 +27,11 @@ fn clear(flags: u64) -> usize
     if flags == 0 {
         return 8;
     }
-    (u64::trailing_zeros(flags) as usize) / 8
+    flags.trailing_zeros() as usize / 8
 }
 
 // The same byte by byte: the processor guesses the number, and what comes next need not wait for it.
+#[tactic(auto, using(crate::specs::Steps::counts))]
 fn clear_by_steps(flags: u64) -> usize
     ensures { result ≡ clear_of flags }
 {
@@ -28,37 +39,30 @@ fn clear_by_steps(flags: u64) -> usize
         return 8;
     }
     let mut rest = flags;
-    let mut count = 0;
-    while count < 8 {
+    for count in 0..8 {
         if rest % 256 != 0 {
             return count;
         }
-        rest = rest / 256;
-        count += 1;
+        rest /= 256;
     }
-    count
+    8
 }
 
-// A tab has a flag too: the test of a single byte takes it.
-fn value_flags(x: u64) -> u64
-    ensures { result ≡ flags not_value x }
+// Flags, and other bits, in the bytes whose seven low bits are below LEAST or those of DEL.
+fn low_or_delete<const LEAST: u64>(x: u64) -> u64
+    requires { LEAST ≤ 128 }
+    ensures { result ≡ at_word (either (none (least LEAST)) (least 0x7F)) 8 x }
 {
     let y = x & LOW;
-    (((y + 0x6060_6060_6060_6060) ^ FLAGS) | (y + 0x0101_0101_0101_0101)) & (x ^ FLAGS) & FLAGS
+    ((y + (0x80 - LEAST) * ONES) ^ FLAGS) | (y + ONES)
 }
 
-fn target_flags(x: u64) -> u64
-    ensures { result ≡ flags not_target x }
+// Flags in the bytes below LEAST, and in DEL: from 0x80 on there are none.
+fn text_flags<const LEAST: u64>(x: u64) -> u64
+    requires { LEAST ≤ 128 }
+    ensures { result ≡ flags (both (either (none (least LEAST)) (least 0x7F)) (none high)) x }
 {
-    let y = x & LOW;
-    (((y + 0x5f5f_5f5f_5f5f_5f5f) ^ FLAGS) | (y + 0x0101_0101_0101_0101)) & (x ^ FLAGS) & FLAGS
-}
-
-fn visible_flags(x: u64) -> u64
-    ensures { result ≡ flags not_visible x }
-{
-    let y = x & LOW;
-    (((y + 0x5f5f_5f5f_5f5f_5f5f) ^ FLAGS) | (y + 0x0101_0101_0101_0101) | x) & FLAGS
+    low_or_delete::<LEAST>(x) & (x ^ FLAGS) & FLAGS
 }
 
 // Letters and hyphens have none, of which most names are made; digits and the other marks are left to the test of one byte.
@@ -72,32 +76,33 @@ fn token_flags(x: u64) -> u64
     (((letter | hyphen) ^ FLAGS) | x) & FLAGS
 }
 
-pub fn value(x: u64) -> usize
-    ensures { Sure is_value x result }
-{
-    clear_by_steps(value_flags(x))
+// A tab has a flag too: the test of a single byte takes it.
+impl Eights for Value {
+    fn sure(x: u64) -> usize {
+        clear_by_steps(text_flags::<0x20>(x))
+    }
 }
 
-pub fn target(x: u64) -> usize
-    ensures { Sure is_target x result }
-{
-    clear(target_flags(x))
+impl Eights for Target {
+    fn sure(x: u64) -> usize {
+        clear(text_flags::<0x21>(x))
+    }
 }
 
-pub fn visible(x: u64) -> usize
-    ensures { Sure is_visible x result }
-{
-    clear(visible_flags(x))
+impl Eights for Visible {
+    fn sure(x: u64) -> usize {
+        clear((low_or_delete::<0x21>(x) | x) & FLAGS)
+    }
 }
 
-pub fn token(x: u64) -> usize
-    ensures { Sure is_token x result }
-{
-    clear(token_flags(x))
+impl Eights for Token {
+    fn sure(x: u64) -> usize {
+        clear(token_flags(x))
+    }
 }
 
-pub fn ascii(x: u64) -> usize
-    ensures { Sure is_ascii x result }
-{
-    clear(x & FLAGS)
+impl Eights for Ascii {
+    fn sure(x: u64) -> usize {
+        clear(x & FLAGS)
+    }
 }

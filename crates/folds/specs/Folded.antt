@@ -1,6 +1,6 @@
 -- A header's value over its lines: one, or, where the rules say so, that one and each line behind it that begins with a blank (RFC 9112, 5.2).
 -- Assumes nothing.
-use Rattle.std.specs.Prelude.{ℕ, ◌+◌, ◌-◌, ◌^◌, ◌≤◌, ◌<◌, ◌≡◌, refl, List, [], ◌∷◌, Bool, true, false, ◌&&◌, cond, eqb, length, get_or, drop}
+use Rattle.std.specs.Prelude.{ℕ, ◌+◌, ◌-◌, ◌^◌, ◌≤◌, ◌<◌, ◌≡◌, refl, List, [], ◌∷◌, Bool, true, false, ◌&&◌, cond, eqb, length, drop}
 use Rattle.std.proofs.Common.{arith, sym, ap, subst, ◌∙◌, length-drop, ne_eqb}
 use Rattle.std.proofs.Math.Decide.{dec_lt}
 use Rattle.reader.specs.Machine.{Move, keep, give, before, refuse, gave, Step, after, run, run_at}
@@ -22,9 +22,10 @@ use Rattle.rules.specs.Settings.{changed}
 use Rattle.parts.specs.declared.Fault.{Fault}
 use Rattle.parts.specs.declared.Error.TheVariants.{HeaderValue}
 use Rattle.parts.specs.declared.Piece.{Piece}
-use Rattle.parts.specs.declared.Found.{Found}
-use Rattle.parts.specs.declared.Found.TheVariants as finds
-use Rattle.parts.specs.Answers.{fault, piece, found}
+use Rattle.parts.specs.declared.Unread.{Unread}
+use Rattle.parts.specs.declared.Unread.TheVariants.{More, Bad}
+use Rattle.parts.specs.Byte.{Is, IsPast}
+use Rattle.parts.specs.Answers.{fault, piece, stopped}
 use Rattle.parts.specs.LineEnd.{LineEnd, begin, cr, line_end_step, line_end}
 use Rattle.values.specs.Value.{Value, blanks, inside, value_step, value}
 
@@ -213,28 +214,25 @@ kept_none m xs at = record { same = by m (dec_lt at (length xs)); low = omega ar
     by false (yes h) = branch_other (λ _. false) (folded_step (multiline_rules false)) (nothing_yet, first (first blanks)) (value_line_step (multiline_rules false)) (first blanks) nothing xs at h refl
     by false (no h) = rw (run_out (lines_step (multiline_rules false)) fresh xs at (omega arith), run_out (value_line_step (multiline_rules false)) (first blanks) xs at (omega arith))
 
-module _ {m : Bool} {xs : List ℕ} {at i : ℕ} {a : Piece} (k : Kept m xs at i a) {f : Found} (e : found f ≡ value_line default xs i) where
-  -- the whole where the next line is c
-  lap : {c : Found} → f ≡ c → folded (multiline_rules true) a xs i ≡ rounds (and (found c) (λ v q. retold (λ u. u) (λ t. pass (turn (joined a v) t)) (λ e. e) (reads next_step tt xs q))) (λ a' q. folded (multiline_rules true) a' xs q)
-  lap h = folded_parts (multiline_rules true) a xs i ∙ rw (← e, h)
-
-  pub kept_short : f ≡ finds.More → short tt ≡ value_lines (multiline_rules m) xs at
-  kept_short h = sym (k.same ∙ by m)
+module _ {m : Bool} {xs : List ℕ} {at i : ℕ} {a : Piece} (k : Kept m xs at i a) where
+  -- where the next line is not read, the whole is not
+  pub kept_stops : (x : Unread Fault) → stopped x ≡ value_line default xs i → stopped x ≡ value_lines (multiline_rules m) xs at
+  kept_stops x e = sym (k.same ∙ by m)
     where
-      by : (t : Bool) → onward t a xs i ≡ short tt
-      by true = lap h
-      by false = sym e ∙ rw h
+      halts : (y : Unread Fault) → rounds (and (stopped y) (λ v q. retold (λ u. u) (λ t. pass (turn (joined a v) t)) (λ e. e) (reads next_step tt xs q))) (λ a' q. folded (multiline_rules true) a' xs q) ≡ stopped y
+      halts More = refl
+      halts (Bad d) = refl
 
-  pub kept_bad : {x : Fault} → f ≡ finds.Bad x → bad x ≡ value_lines (multiline_rules m) xs at
-  kept_bad {x} h = sym (k.same ∙ by m)
-    where
-      by : (t : Bool) → onward t a xs i ≡ bad x
-      by true = lap h
-      by false = sym e ∙ rw h
+      by : (t : Bool) → onward t a xs i ≡ stopped x
+      by true = folded_parts (multiline_rules true) a xs i ∙ rw (← e) (halts x)
+      by false = sym e
 
-  module _ {v : Piece} {q : ℕ} (h : f ≡ finds.At v q) where
+  module _ {v : Piece} {q : ℕ} (e : got v q ≡ value_line default xs i) where
+    lap : folded (multiline_rules true) a xs i ≡ rounds (retold (λ u. u) (λ t. pass (turn (joined a v) t)) (λ e. e) (reads next_step tt xs q)) (λ a' q. folded (multiline_rules true) a' xs q)
+    lap = folded_parts (multiline_rules true) a xs i ∙ rw (← e)
+
     kept_in : LineIn xs i v q
-    kept_in = line_in default xs i v q (sym e ∙ rw h)
+    kept_in = line_in default xs i v q (sym e)
 
     pub kept_less : length xs - q < length xs - i
     kept_less = omega (arith, kept_in)
@@ -243,17 +241,17 @@ module _ {m : Bool} {xs : List ℕ} {at i : ℕ} {a : Piece} (k : Kept m xs at i
     kept_joins l = record { order = omega (arith, kept_in, k.low); fits = omega (arith, kept_in) }
 
     pub kept_one : m ≡ false → got v q ≡ value_lines (multiline_rules m) xs at
-    kept_one t = sym (k.same ∙ ap (λ y. onward y a xs i) t ∙ sym e ∙ rw h)
+    kept_one t = sym (k.same ∙ ap (λ y. onward y a xs i) t ∙ sym e)
 
     module _ (t : m ≡ true) where
-      pub kept_out : length xs ≤ q → short tt ≡ value_lines (multiline_rules m) xs at
-      kept_out l = sym (k.same ∙ ap (λ y. onward y a xs i) t ∙ lap h ∙ rw (run_out next_step tt xs q l))
+      pub kept_out : {x : Unread Fault} → IsPast xs q x → stopped x ≡ value_lines (multiline_rules m) xs at
+      kept_out l = rw l.more (sym (k.same ∙ ap (λ y. onward y a xs i) t ∙ lap ∙ rw (run_out next_step tt xs q l.past)))
 
-      module _ {w : Piece} (j : w ≡ joined a v) (l : q < length xs) where
-        pub kept_done : is_blank (get_or xs q 0) ≡ false → got w q ≡ value_lines (multiline_rules m) xs at
-        kept_done b = sym (k.same ∙ ap (λ y. onward y a xs i) t ∙ lap h ∙ rw (run_in next_step tt xs q l, b, j))
+      module _ {b : ℕ} {w : Piece} (j : w ≡ joined a v) (l : Is xs q b) where
+        pub kept_done : is_blank b ≡ false → got w q ≡ value_lines (multiline_rules m) xs at
+        kept_done c = sym (k.same ∙ ap (λ y. onward y a xs i) t ∙ lap ∙ rw (run_in next_step tt xs q l.inside, ← l.there, c, j))
 
-        pub kept_again : is_blank (get_or xs q 0) ≡ true → Kept m xs at q w
-        kept_again b = record { same = k.same ∙ ap (λ y. onward y a xs i) t ∙ lap h ∙ rw (run_in next_step tt xs q l, b, j, t); low = rw j (split (λ (y : Piece). y.offset ≤ q) (eqb a.length 0) (λ _. omega (arith, kept_in)) (λ _. split (λ (y : Piece). y.offset ≤ q) (eqb v.length 0) (λ _. omega (arith, kept_in, k.low)) (λ _. omega (arith, kept_in, k.low)))) }
+        pub kept_again : is_blank b ≡ true → Kept m xs at q w
+        kept_again c = record { same = k.same ∙ ap (λ y. onward y a xs i) t ∙ lap ∙ rw (run_in next_step tt xs q l.inside, ← l.there, c, j, t); low = rw j (split (λ (y : Piece). y.offset ≤ q) (eqb a.length 0) (λ _. omega (arith, kept_in)) (λ _. split (λ (y : Piece). y.offset ≤ q) (eqb v.length 0) (λ _. omega (arith, kept_in, k.low)) (λ _. omega (arith, kept_in, k.low)))) }
 
-pub ruleset folds = (kept_none, kept_short, kept_bad, kept_less, kept_joins, kept_one, kept_out, kept_done, kept_again, told_true, told_false)
+pub ruleset folds = (kept_none, kept_stops, kept_less, kept_joins, kept_one, kept_out, kept_done, kept_again, told_true, told_false)

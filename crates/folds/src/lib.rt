@@ -3,31 +3,23 @@
 
 ghost use Rattle.std.specs.Prelude.{◌≡◌};
 ghost use Rattle.rules.specs.Rules.{default};
-ghost use Rattle.parts.specs.Answers.{found as found_of};
+ghost use Rattle.parts.specs.Answers.{read};
 ghost use Rattle.folds.specs.Folded.{Joins, value_line, joined as joined_of, multiline_rules, value_lines};
 
-use parts::{Error, Found, Passed, Piece};
+use octets::{Blank, Class};
+use parts::{Error, Piece, Read};
 
 // A value, and the end of its line.
-fn line(s: &[u8], at: usize) -> Found
-    ensures { found_of result ≡ value_line default s.now at }
+fn line(s: &[u8], at: usize) -> Read<Piece>
+    ensures { read result ≡ value_line default s.now at }
 {
-    let found = values::value(s, at);
-    match found {
-        Found::At(value, next) => {
-            let end = parts::line_end(s, next, Error::HeaderValue);
-            match end {
-                Passed::At(behind) => Found::At(value, behind),
-                Passed::More => Found::More,
-                Passed::Bad(e) => Found::Bad(e),
-            }
-        }
-        Found::More => Found::More,
-        Found::Bad(e) => Found::Bad(e),
-    }
+    let (value, next) = values::value(s, at)?;
+    let behind = parts::line_end(s, next, Error::HeaderValue)?;
+    Ok((value, behind))
 }
 
 // A value, and that of one more line.
+#[tactic(auto, using(crate::specs::Folded::joins))]
 fn joined(value: Piece, line: Piece) -> Piece
     requires { Joins value line }
     ensures { result ≡ joined_of value line }
@@ -45,9 +37,9 @@ fn joined(value: Piece, line: Piece) -> Piece
 }
 
 // A value to its line's end, and, where `multiline` says so, each line behind it that begins with a blank. One loop reads both, so that `line`
-// has one call site and is inlined there.
-pub fn lines(s: &[u8], at: usize, multiline: bool) -> Found
-    ensures { found_of result ≡ value_lines (multiline_rules multiline) s.now at }
+// has one call site and is inlined there; no `for`, since a turn goes on behind the line before it.
+pub fn lines(s: &[u8], at: usize, multiline: bool) -> Read<Piece>
+    ensures { read result ≡ value_lines (multiline_rules multiline) s.now at }
 {
     let mut i = at;
     let mut value = Piece {
@@ -55,27 +47,15 @@ pub fn lines(s: &[u8], at: usize, multiline: bool) -> Found
         length: 0,
     };
     loop {
-        let found = line(s, i);
-        match found {
-            Found::At(piece, next) => {
-                if !multiline {
-                    return Found::At(piece, next);
-                }
-                if s.len() <= next {
-                    return Found::More;
-                }
-                value = joined(value, piece);
-                if !octets::is_blank(s[next]) {
-                    return Found::At(value, next);
-                }
-                i = next;
-            }
-            Found::More => {
-                return Found::More;
-            }
-            Found::Bad(e) => {
-                return Found::Bad(e);
-            }
+        let (piece, next) = line(s, i)?;
+        if !multiline {
+            return Ok((piece, next));
         }
+        let behind = parts::byte(s, next)?;
+        value = joined(value, piece);
+        if !Blank::holds(behind) {
+            return Ok((value, next));
+        }
+        i = next;
     }
 }

@@ -1,92 +1,79 @@
-// The lines of a plain form and their parts, each put behind the one before it.
-#![tactic(auto)]
+// The plain form of what was read, line by line, each part put behind the one before it.
+#![tactic(auto, using(crate::specs::Lines::lined))]
 
-ghost use Rattle.std.specs.Prelude.{◌≡◌, ◌+◌, ◌≤◌, length};
-ghost use Rattle.plain.specs.Plain.{plain_version, plain_code, plain_field, plain_fields, plain_request_line, plain_status_line, plain_request, plain_response};
+ghost use Rattle.std.specs.Prelude.{ℕ, List, ◌≡◌, ◌+◌, ◌≤◌, length};
+ghost use Rattle.plain.specs.Plain.{plain_version, plain_code, plain_field, plain_fields, plain_request_line, plain_status_line};
 ghost use Rattle.agreement.specs.Places.{held};
 ghost use Rattle.agreement.specs.Known.{fields_in};
 ghost use Rattle.output.specs.Put.{Adds};
 ghost use Rattle.startline.specs.Answers.{number_of};
-ghost use Rattle.places.specs.Lies.{Lies, AtMost, SlotsLie, RequestLies, ResponseLies, bytes_of, one_point, request_of, status_of};
-ghost use Rattle.places.specs.Slots.{field_at, SlotLies};
+ghost use Rattle.places.specs.Lies.{Lies, AtMost, SlotsLie, bytes_of, one_point, request_of, status_of};
+ghost use Rattle.formlines.specs.Forms.{request_form, response_form, block_form};
+ghost use Rattle.formlines.specs.Lines.{HeaderLies, field_of};
 
-use heads::{RequestHead, ResponseHead};
+use blocks::Block;
+use fields::Header;
+use heads::Head;
 use output::put;
 use parts::Piece;
+use places::Writable;
 use requestline::RequestLine;
-use startline::{KnownNumber, KnownPiece};
 use statusline::StatusLine;
 
+// Here and below the room and a position in it stay two parameters, since `Adds` and `output::put` are of both.
 fn piece(out: &mut [u8], at: usize, s: &[u8], p: Piece) -> usize
     requires { p.offset + p.length ≤ length s.now }
     ensures { Adds (held s.now p) at out.old result out.new }
 {
-    let from = p.offset;
-    let end = from + p.length;
-    put(out, at, &s[from..end])
+    put(out, at, &s[p.offset..p.offset + p.length])
 }
 
-fn known_piece(out: &mut [u8], at: usize, s: &[u8], known: KnownPiece) -> usize
+fn known_piece(out: &mut [u8], at: usize, s: &[u8], known: Option<Piece>) -> usize
     requires { Lies s.now known }
     ensures { Adds (bytes_of s.now known) at out.old result out.new }
 {
     match known {
-        KnownPiece::Is(p) => piece(out, at, s, p),
-        KnownPiece::NotYet => at,
+        Some(p) => piece(out, at, s, p),
+        None => at,
     }
 }
 
-fn number(known: KnownNumber) -> usize
-    ensures { result ≡ number_of known }
-{
-    match known {
-        KnownNumber::Is(n) => n,
-        KnownNumber::NotYet => 0,
-    }
-}
-
-fn version(out: &mut [u8], at: usize, known: KnownNumber) -> usize
+fn version(out: &mut [u8], at: usize, known: Option<usize>) -> usize
     requires { AtMost 9 known }
     ensures { Adds (plain_version (one_point (number_of known))) at out.old result out.new }
 {
-    let minor = number(known);
-    put(out, at, &[72, 84, 84, 80, 47, 49, 46, 48 + minor as u8])
+    let minor = known.unwrap_or(0);
+    put(
+        out,
+        at,
+        &[b'H', b'T', b'T', b'P', b'/', b'1', b'.', b'0' + minor as u8],
+    )
 }
 
-fn code(out: &mut [u8], at: usize, known: KnownNumber) -> usize
+fn code(out: &mut [u8], at: usize, known: Option<usize>) -> usize
     requires { AtMost 999 known }
     ensures { Adds (plain_code (number_of known)) at out.old result out.new }
 {
-    let n = number(known);
+    let n = known.unwrap_or(0);
     put(
         out,
         at,
         &[
-            48 + (n / 100) as u8,
-            48 + (n / 10 % 10) as u8,
-            48 + (n % 10) as u8,
+            b'0' + (n / 100) as u8,
+            b'0' + (n / 10 % 10) as u8,
+            b'0' + (n % 10) as u8,
         ],
     )
 }
 
-// The header of four numbers.
-fn field(out: &mut [u8], at: usize, s: &[u8], slots: &[usize], i: usize) -> usize
-    requires i_in_bounds { i + 4 ≤ length slots.now }
-    requires slot_lies { SlotLies (length s.now) slots.now i }
-    ensures { Adds (plain_field (field_at s.now slots.now i)) at out.old result out.new }
+fn field(out: &mut [u8], at: usize, s: &[u8], header: Header) -> usize
+    requires { HeaderLies s.now header }
+    ensures { Adds (plain_field (field_of s.now header)) at out.old result out.new }
 {
-    let name = Piece {
-        offset: slots[i],
-        length: slots[i + 1],
-    };
-    let value = Piece {
-        offset: slots[i + 2],
-        length: slots[i + 3],
-    };
-    let colon = piece(out, at, s, name);
+    let colon = piece(out, at, s, header.name);
     let space = put(out, colon, b":");
     let start = put(out, space, b" ");
-    let end = piece(out, start, s, value);
+    let end = piece(out, start, s, header.value);
     put(out, end, b"\r\n")
 }
 
@@ -95,62 +82,73 @@ pub fn fields(out: &mut [u8], at: usize, s: &[u8], slots: &[usize], count: usize
     ensures { Adds (plain_fields (fields_in s.now count slots.now)) at out.old result out.new }
 {
     let mut next = at;
-    let mut k = 0;
-    while k < count {
-        next = field(out, next, s, slots, k * 4);
-        k += 1;
+    for index in 0..count {
+        next = field(out, next, s, places::header(slots, index));
     }
     put(out, next, b"\r\n")
 }
 
-fn request_line(out: &mut [u8], s: &[u8], line: RequestLine) -> usize
+fn request_line(out: &mut [u8], at: usize, s: &[u8], line: RequestLine) -> usize
     requires lies { Lies s.now line.method }
     requires lies_2 { Lies s.now line.target }
     requires at_most { AtMost 9 line.version }
-    ensures { Adds (plain_request_line (request_of s.now line)) 0 out.old result out.new }
+    ensures { Adds (plain_request_line (request_of s.now line)) at out.old result out.new }
 {
-    let method = line.method;
-    let target = line.target;
-    let minor = line.version;
-    let next = known_piece(out, 0, s, method);
+    let next = known_piece(out, at, s, line.method);
     let next = put(out, next, b" ");
-    let next = known_piece(out, next, s, target);
+    let next = known_piece(out, next, s, line.target);
     let next = put(out, next, b" ");
-    let next = version(out, next, minor);
+    let next = version(out, next, line.version);
     put(out, next, b"\r\n")
 }
 
-fn status_line(out: &mut [u8], s: &[u8], line: StatusLine) -> usize
+fn status_line(out: &mut [u8], at: usize, s: &[u8], line: StatusLine) -> usize
     requires at_most { AtMost 9 line.version }
     requires at_most_2 { AtMost 999 line.code }
     requires lies { Lies s.now line.reason }
-    ensures { Adds (plain_status_line (status_of s.now line)) 0 out.old result out.new }
+    ensures { Adds (plain_status_line (status_of s.now line)) at out.old result out.new }
 {
-    let minor = line.version;
-    let three = line.code;
-    let reason = line.reason;
-    let next = version(out, 0, minor);
+    let next = version(out, at, line.version);
     let next = put(out, next, b" ");
-    let next = code(out, next, three);
+    let next = code(out, next, line.code);
     let next = put(out, next, b" ");
-    let next = known_piece(out, next, s, reason);
+    let next = known_piece(out, next, s, line.reason);
     put(out, next, b"\r\n")
 }
 
-pub fn request(out: &mut [u8], s: &[u8], head: RequestHead, slots: &[usize]) -> usize
-    requires { RequestLies s.now head slots.now }
-    ensures { Adds (plain_request (request_of s.now head.line) (fields_in s.now head.count slots.now)) 0 out.old result out.new }
-{
-    let line = head.line;
-    let next = request_line(out, s, line);
-    fields(out, next, s, slots, head.count)
+// What was read, and its plain form.
+pub trait Plain: Writable {
+    // by the input and the slots
+    ghost form: { List ℕ → Self → List ℕ → List ℕ };
+
+    // Puts the form at a position if it ends within `out`. Answers the position behind it, and usize::MAX where there is no such number.
+    fn put(self, out: &mut [u8], at: usize, s: &[u8], slots: &[usize]) -> usize
+        requires { Self.lies s.now self slots.now }
+        ensures { Adds (form s.now self slots.now) at out.old result out.new };
 }
 
-pub fn response(out: &mut [u8], s: &[u8], head: ResponseHead, slots: &[usize]) -> usize
-    requires { ResponseLies s.now head slots.now }
-    ensures { Adds (plain_response (status_of s.now head.line) (fields_in s.now head.count slots.now)) 0 out.old result out.new }
-{
-    let line = head.line;
-    let next = status_line(out, s, line);
-    fields(out, next, s, slots, head.count)
+impl Plain for Head<RequestLine> {
+    ghost form = { request_form };
+
+    fn put(self, out: &mut [u8], at: usize, s: &[u8], slots: &[usize]) -> usize {
+        let next = request_line(out, at, s, self.line);
+        fields(out, next, s, slots, self.count)
+    }
+}
+
+impl Plain for Head<StatusLine> {
+    ghost form = { response_form };
+
+    fn put(self, out: &mut [u8], at: usize, s: &[u8], slots: &[usize]) -> usize {
+        let next = status_line(out, at, s, self.line);
+        fields(out, next, s, slots, self.count)
+    }
+}
+
+impl Plain for Block {
+    ghost form = { block_form };
+
+    fn put(self, out: &mut [u8], at: usize, s: &[u8], slots: &[usize]) -> usize {
+        fields(out, at, s, slots, self.count)
+    }
 }

@@ -1,56 +1,43 @@
 // The writers: they take the numbers that hr_request, hr_response or hr_headers answered.
 use blocks::Block;
-use heads::{RequestHead, ResponseHead};
-use parts::{Passed, Piece};
+use heads::Head;
+use parts::{Passed, Piece, Unread};
 use requestline::RequestLine;
-use startline::{KnownNumber, KnownPiece};
 use statusline::StatusLine;
-use writer::Writing;
+use writer::Unwritten;
 
-// 0 for written and 1 for too little room, with the number of bytes; 2 for what cannot be written, 3 for what is too long.
-fn told(answer: Writing, size: &mut [usize; 1]) -> u32 {
-    match answer {
-        Writing::Written(n) => {
-            size[0] = n;
-            0
-        }
-        Writing::Needs(n) => {
-            size[0] = n;
-            1
-        }
-        Writing::Unwritable => {
-            size[0] = 0;
-            2
-        }
-        Writing::TooLong => {
-            size[0] = 0;
-            3
-        }
-    }
+// 0 for written and 1 for too little room, with the number of bytes; 2 for what cannot be written, 3 for what is too long: C has no Result.
+fn told(answer: Result<usize, Unwritten>, size: &mut [usize; 1]) -> u32 {
+    let (told, n) = match answer {
+        Ok(n) => (0, n),
+        Err(Unwritten::Needs(n)) => (1, n),
+        Err(Unwritten::Unwritable) => (2, 0),
+        Err(Unwritten::TooLong) => (3, 0),
+    };
+    size[0] = n;
+    told
 }
 
 // A reading that was not complete is not written, whatever else it was.
 fn end(kind: u32, position: usize) -> Passed {
     if kind == 0 {
-        return Passed::At(position);
+        return Ok(position);
     }
-    Passed::More
+    Err(Unread::More)
 }
 
-fn known_piece(known: usize, bit: usize, offset: usize, length: usize) -> KnownPiece {
+fn known<T: Copy>(known: usize, bit: usize, value: T) -> Option<T> {
     if known & bit == 0 {
-        return KnownPiece::NotYet;
+        return None;
     }
-    KnownPiece::Is(Piece { offset, length })
+    Some(value)
 }
 
-fn known_number(known: usize, bit: usize, n: usize) -> KnownNumber {
-    if known & bit == 0 {
-        return KnownNumber::NotYet;
-    }
-    KnownNumber::Is(n)
+fn piece(offset: usize, length: usize) -> Piece {
+    Piece { offset, length }
 }
 
+// A function for each kind, since C has a name for each.
 #[unsafe(no_mangle)]
 pub extern "C" fn harness_plain_request(
     buf: &[u8],
@@ -60,17 +47,17 @@ pub extern "C" fn harness_plain_request(
     out: &mut [u8],
     size: &mut [usize; 1],
 ) -> u32 {
-    let known = answer[2];
-    let head = RequestHead {
+    let bits = answer[2];
+    let head = Head {
         end: end(kind, answer[0]),
         line: RequestLine {
-            method: known_piece(known, 1, answer[3], answer[4]),
-            target: known_piece(known, 2, answer[5], answer[6]),
-            version: known_number(known, 4, answer[7]),
+            method: known(bits, 1, piece(answer[3], answer[4])),
+            target: known(bits, 2, piece(answer[5], answer[6])),
+            version: known(bits, 4, answer[7]),
         },
         count: answer[1],
     };
-    told(writer::plain_request(buf, head, slots, out), size)
+    told(writer::plain_form(buf, head, slots, out), size)
 }
 
 #[unsafe(no_mangle)]
@@ -82,17 +69,17 @@ pub extern "C" fn harness_plain_response(
     out: &mut [u8],
     size: &mut [usize; 1],
 ) -> u32 {
-    let known = answer[2];
-    let head = ResponseHead {
+    let bits = answer[2];
+    let head = Head {
         end: end(kind, answer[0]),
         line: StatusLine {
-            version: known_number(known, 4, answer[3]),
-            code: known_number(known, 8, answer[4]),
-            reason: known_piece(known, 16, answer[5], answer[6]),
+            version: known(bits, 4, answer[3]),
+            code: known(bits, 8, answer[4]),
+            reason: known(bits, 16, piece(answer[5], answer[6])),
         },
         count: answer[1],
     };
-    told(writer::plain_response(buf, head, slots, out), size)
+    told(writer::plain_form(buf, head, slots, out), size)
 }
 
 #[unsafe(no_mangle)]
@@ -108,5 +95,5 @@ pub extern "C" fn harness_plain_headers(
         end: end(kind, answer[0]),
         count: answer[1],
     };
-    told(writer::plain_headers(buf, block, slots, out), size)
+    told(writer::plain_form(buf, block, slots, out), size)
 }

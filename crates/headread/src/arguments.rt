@@ -2,55 +2,50 @@
 ghost use Rattle.std.specs.Prelude.{◌≤◌};
 
 use crate::settings;
-use crate::system::{argument, count, room, same, tell};
+use crate::settings::Taken;
+use crate::system::{argument, count, room, tell};
+use report::Audience;
 use rules::Settings;
 use wording::Kind;
 
 // A report for a person or for a script, or the plain form.
-#[derive(Drop)]
+#[derive(Clone, Copy)]
 pub enum Mode {
-    Person,
-    Script,
+    Report(Audience),
     Plain,
 }
 
-// What to read, what to print of it, with which settings, and which argument names the file, 0 for none; or the call was refused with a
-// message.
-#[derive(Drop)]
-pub enum Call {
-    Read(Kind, Mode, Settings, usize),
-    Refused,
+// What to read, what to print of it, with which settings, and which argument names the file, if one does.
+#[derive(Clone, Copy)]
+pub struct Call {
+    pub kind: Kind,
+    pub mode: Mode,
+    pub settings: Settings,
+    pub file: Option<usize>,
 }
 
-#[derive(Drop)]
-enum Word {
-    Is(Kind),
-    Other,
-}
-
-pub fn asked(rt: &HostRuntime) -> Call {
-    let taken = settings::first(rt);
-    let settings = taken.settings;
-    asked_behind(rt, taken.next, settings)
+// None where the call was refused with a message, here and in what is called.
+pub fn asked(rt: &HostRuntime) -> Option<Call> {
+    let Taken { settings, next } = settings::first(rt);
+    asked_behind(rt, next, settings)
 }
 
 // The arguments from the first that is no setting on.
-fn asked_behind(rt: &HostRuntime, at: usize, settings: Settings) -> Call
+fn asked_behind(rt: &HostRuntime, at: usize, settings: Settings) -> Option<Call>
     requires { at ≤ 8 }
 {
     if is(rt, at, b"--plain") {
         return asked_plain(rt, at + 1, settings);
     }
-    let word = kind_at(rt, at);
-    match word {
-        Word::Is(kind) => {
+    match kind_at(rt, at) {
+        Some(kind) => {
             if is(rt, at + 1, b"--raw") {
-                with_file(rt, kind, Mode::Script, settings, at + 2)
+                with_file(rt, kind, Mode::Report(Audience::Script), settings, at + 2)
             } else {
-                with_file(rt, kind, Mode::Person, settings, at + 1)
+                with_file(rt, kind, Mode::Report(Audience::Person), settings, at + 1)
             }
         }
-        Word::Other => refused_word(
+        None => refused_word(
             rt,
             at,
             b"headread: behind the settings, if any, must stand request, response, headers or chunk, or --plain",
@@ -58,16 +53,13 @@ fn asked_behind(rt: &HostRuntime, at: usize, settings: Settings) -> Call
     }
 }
 
-fn asked_plain(rt: &HostRuntime, at: usize, settings: Settings) -> Call
+fn asked_plain(rt: &HostRuntime, at: usize, settings: Settings) -> Option<Call>
     requires { at ≤ 9 }
 {
-    let word = kind_at(rt, at);
-    match word {
-        Word::Is(kind) => match kind {
-            Kind::Chunk => refused(rt, b"headread: a chunk size line has no plain form\n"),
-            _ => with_file(rt, kind, Mode::Plain, settings, at + 1),
-        },
-        Word::Other => refused_word(
+    match kind_at(rt, at) {
+        Some(Kind::Chunk) => refused(rt, b"headread: a chunk size line has no plain form\n"),
+        Some(kind) => with_file(rt, kind, Mode::Plain, settings, at + 1),
+        None => refused_word(
             rt,
             at,
             b"headread: behind --plain must stand request, response or headers",
@@ -75,35 +67,30 @@ fn asked_plain(rt: &HostRuntime, at: usize, settings: Settings) -> Call
     }
 }
 
-fn kind_at(rt: &HostRuntime, at: usize) -> Word {
+fn kind_at(rt: &HostRuntime, at: usize) -> Option<Kind> {
     let mut room = room();
-    kind(argument(rt, at, &mut room))
-}
-
-fn kind(word: &[u8]) -> Word {
-    if same(word, b"request") {
-        return Word::Is(Kind::Request);
-    }
-    if same(word, b"response") {
-        return Word::Is(Kind::Response);
-    }
-    if same(word, b"headers") {
-        return Word::Is(Kind::Headers);
-    }
-    if same(word, b"chunk") {
-        Word::Is(Kind::Chunk)
-    } else {
-        Word::Other
+    match argument(rt, at, &mut room) {
+        b"request" => Some(Kind::Request),
+        b"response" => Some(Kind::Response),
+        b"headers" => Some(Kind::Headers),
+        b"chunk" => Some(Kind::Chunk),
+        _ => None,
     }
 }
 
 fn is(rt: &HostRuntime, at: usize, option: &[u8]) -> bool {
     let mut room = room();
-    same(argument(rt, at, &mut room), option)
+    argument(rt, at, &mut room) == option
 }
 
 // A setting is for the kinds that it changes.
-fn with_file(rt: &HostRuntime, kind: Kind, mode: Mode, settings: Settings, at: usize) -> Call {
+fn with_file(
+    rt: &HostRuntime,
+    kind: Kind,
+    mode: Mode,
+    settings: Settings,
+    at: usize,
+) -> Option<Call> {
     let of_requests = settings.ascii_targets | settings.spaces_in_request_line;
     let of_responses = settings.spaces_in_status_line
         | settings.spaces_after_name
@@ -141,48 +128,54 @@ fn with_file(rt: &HostRuntime, kind: Kind, mode: Mode, settings: Settings, at: u
 }
 
 // The file is the last argument, and may be left out.
-fn file_at(rt: &HostRuntime, kind: Kind, mode: Mode, settings: Settings, at: usize) -> Call {
+fn file_at(
+    rt: &HostRuntime,
+    kind: Kind,
+    mode: Mode,
+    settings: Settings,
+    at: usize,
+) -> Option<Call> {
     let count = count(rt);
-    if count <= at {
-        return Call::Read(kind, mode, settings, 0);
+    if at < count {
+        if is_option(rt, at) {
+            return refused(
+                rt,
+                b"headread: settings stand first, then --plain, and --raw behind the kind; a file whose name starts with - is given as ./-\n",
+            );
+        }
+        if at < count - 1 {
+            return refused(
+                rt,
+                b"headread: too many arguments: one file is read, and its name stands last\n",
+            );
+        }
     }
-    if is_option(rt, at) {
-        return refused(
-            rt,
-            b"headread: settings stand first, then --plain, and --raw behind the kind; a file whose name starts with - is given as ./-\n",
-        );
-    }
-    if at < count - 1 {
-        return refused(
-            rt,
-            b"headread: too many arguments: one file is read, and its name stands last\n",
-        );
-    }
-    Call::Read(kind, mode, settings, at)
+    Some(Call {
+        kind,
+        mode,
+        settings,
+        file: (at < count).then_some(at),
+    })
 }
 
 fn is_option(rt: &HostRuntime, at: usize) -> bool {
     let mut room = room();
-    let word = argument(rt, at, &mut room);
-    if word.len() == 0 {
-        return false;
-    }
-    word[0] == b'-'
+    argument(rt, at, &mut room).starts_with(b"-")
 }
 
 // Says what must stand there, and which word does.
-fn refused_word(rt: &HostRuntime, at: usize, why: &[u8]) -> Call {
+fn refused_word(rt: &HostRuntime, at: usize, why: &[u8]) -> Option<Call> {
     let mut room = room();
     let word = argument(rt, at, &mut room);
     tell(rt, why);
-    if 0 < word.len() {
+    if !word.is_empty() {
         tell(rt, b"; here stands ");
         tell(rt, word);
     }
     refused(rt, b"\n")
 }
 
-fn refused(rt: &HostRuntime, why: &[u8]) -> Call {
+fn refused(rt: &HostRuntime, why: &[u8]) -> Option<Call> {
     tell(rt, why);
     tell(
         rt,
@@ -202,5 +195,5 @@ settings, each for the messages that it names and refused with others
   --ignore-invalid-headers   requests and responses: a line that is no header is passed over
 ",
     );
-    Call::Refused
+    None
 }

@@ -1,7 +1,7 @@
 // The input's bytes. Where they can't be read, standard error says why and what to do.
 ghost use Rattle.std.specs.Prelude.{◌≤◌, length, IfOk};
 
-use crate::system::{tell, tell_why};
+use crate::system::{tell, tell_why, whole};
 use std::fs::File;
 use std::io::{ErrorKind, Read, Stdin};
 use std::{fs, io};
@@ -9,40 +9,44 @@ use std::{fs, io};
 // What the system answers where a name is longer than any path.
 const NAME_TOO_LONG: i32 = 36;
 
-// How many bytes there are; or the system refused to read them; or there are more than the buffer holds.
+// Where the input comes from.
 #[derive(Drop)]
-pub enum Input {
-    Bytes(usize),
-    Unreadable(io::Error),
+pub enum Source<'a> {
+    Standard(Stdin),
+    // a file, and its name
+    Opened(File, &'a [u8]),
+}
+
+// Why the input was not read: the system refused, or there are more bytes than the buffer holds.
+#[derive(Drop)]
+pub enum Unreadable {
+    Refused(io::Error),
     TooLong,
 }
 
-// Where the input comes from.
-#[derive(Drop)]
-pub enum Source {
-    Standard(Stdin),
-    Opened(File),
-}
-
-// The file that an argument names. Argument 0, the program's own name, stands for standard input. A name that is none is longer than
-// any path.
-pub fn open(rt: &HostRuntime, file: usize, name: Option<&[u8]>) -> Option<Source> {
-    if file == 0 {
-        return Some(Source::Standard(rt.stdin()));
-    }
-    match name {
-        Some(name) => open_named(rt, name),
-        None => {
-            let error = io::Error::from_raw_os_error(NAME_TOO_LONG);
-            refuse(rt, b"the file's name", error);
-            None
-        }
+impl From<io::Error> for Unreadable {
+    fn from(error: io::Error) -> Self {
+        Unreadable::Refused(error)
     }
 }
 
-fn open_named(rt: &HostRuntime, name: &[u8]) -> Option<Source> {
+// The file that an argument names, or standard input where none does. None where standard error says why not.
+pub fn open<'a>(rt: &HostRuntime, file: Option<usize>, room: &'a mut [u8]) -> Option<Source<'a>> {
+    match file {
+        Some(at) => open_named(rt, whole(rt, at, room)),
+        None => Some(Source::Standard(rt.stdin())),
+    }
+}
+
+// A name that is none is longer than any path.
+fn open_named<'a>(rt: &HostRuntime, name: Option<&'a [u8]>) -> Option<Source<'a>> {
+    let Some(name) = name else {
+        let error = io::Error::from_raw_os_error(NAME_TOO_LONG);
+        refuse(rt, b"the file's name", error);
+        return None;
+    };
     match opened(rt, name) {
-        Ok(file) => Some(Source::Opened(file)),
+        Ok(file) => Some(Source::Opened(file, name)),
         Err(error) => {
             refuse(rt, name, error);
             None
@@ -58,18 +62,17 @@ fn opened(rt: &HostRuntime, name: &[u8]) -> io::Result<File> {
     }
 }
 
-// Reads to the end of the input, which must come before that of the buffer.
-pub fn read(source: &mut Source, buffer: &mut [u8]) -> Input {
+// Reads to the end of the input, which must come before that of the buffer, and answers its bytes.
+pub fn read<'b>(source: &mut Source, buffer: &'b mut [u8]) -> Result<&'b [u8], Unreadable> {
     let mut n = 0;
+    // each reading goes on where the one before it ended, so no `for` counts them
     while n < buffer.len() {
-        let got = read_some(source, &mut buffer[n..]);
-        match got {
-            Err(error) => return Input::Unreadable(error),
-            Ok(0) => return Input::Bytes(n),
-            Ok(more) => n += more,
+        match read_some(source, &mut buffer[n..])? {
+            0 => return Ok(&buffer[..n]),
+            more => n += more,
         }
     }
-    Input::TooLong
+    Err(Unreadable::TooLong)
 }
 
 fn read_some(source: &mut Source, rest: &mut [u8]) -> io::Result<usize>
@@ -77,22 +80,23 @@ fn read_some(source: &mut Source, rest: &mut [u8]) -> io::Result<usize>
 {
     match source {
         Source::Standard(stdin) => stdin.read(rest),
-        Source::Opened(file) => file.read(rest),
+        Source::Opened(file, _) => file.read(rest),
     }
 }
 
 // Says what the system has against reading what was opened.
-pub fn refuse_read(rt: &HostRuntime, file: usize, name: &[u8], error: io::Error) {
-    if file != 0 {
-        refuse(rt, name, error);
-        return;
+pub fn refuse_read(rt: &HostRuntime, source: &Source, error: io::Error) {
+    match source {
+        Source::Opened(_, name) => refuse(rt, name, error),
+        Source::Standard(_) => {
+            tell(rt, b"headread: ");
+            tell_why(rt, b"standard input", error);
+            tell(
+                rt,
+                b"headread: hand over the input, as in headread request < FILE, or name a file\n",
+            );
+        }
     }
-    tell(rt, b"headread: ");
-    tell_why(rt, b"standard input", error);
-    tell(
-        rt,
-        b"headread: hand over the input, as in headread request < FILE, or name a file\n",
-    );
 }
 
 // Says what the system has against a file or its name.

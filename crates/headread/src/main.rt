@@ -7,75 +7,84 @@ mod settings;
 mod system;
 
 use arguments::{Call, Mode};
-use input::Input;
-use page::place::part;
-use page::text::Page;
-use rules::Settings;
-use wording::Kind;
-use writer::Writing;
+use input::Unreadable;
+use page::text::{Page, ROOM};
+use reading::Given;
+use std::fmt;
+use writer::Unwritten;
 
 fn main(rt: HostRuntime) {
-    let call = arguments::asked(&rt);
-    match call {
-        Call::Read(kind, mode, settings, file) => read(&rt, kind, mode, settings, file),
-        Call::Refused => {}
+    if let Some(call) = arguments::asked(&rt) {
+        read(&rt, call);
     }
 }
 
 // Reads the file that an argument names, and shows what is in it.
-fn read(rt: &HostRuntime, kind: Kind, mode: Mode, settings: Settings, file: usize) {
+fn read(rt: &HostRuntime, call: Call) {
+    let Call {
+        kind,
+        mode,
+        settings,
+        file,
+    } = call;
     let mut room = system::room();
-    let name = system::whole(rt, file, &mut room);
-    let Some(mut source) = input::open(rt, file, name) else {
+    let Some(mut source) = input::open(rt, file, &mut room) else {
         return;
     };
     // one byte more than is taken, so that a longer input is seen
     let mut buffer = [0u8; 65537];
-    let found = input::read(&mut source, &mut buffer);
-    match found {
-        Input::Bytes(length) => show(rt, kind, mode, settings, part(&buffer, 0, length)),
-        Input::Unreadable(error) => input::refuse_read(rt, file, name.unwrap_or(b""), error),
-        Input::TooLong => input::refuse_long(rt),
+    match input::read(&mut source, &mut buffer) {
+        Ok(bytes) => show(
+            rt,
+            mode,
+            Given {
+                kind,
+                bytes,
+                settings,
+            },
+        ),
+        Err(Unreadable::Refused(error)) => input::refuse_read(rt, &source, error),
+        Err(Unreadable::TooLong) => input::refuse_long(rt),
     }
 }
 
 // Nothing is written before all of it is there.
-fn show(rt: &HostRuntime, kind: Kind, mode: Mode, settings: Settings, s: &[u8]) {
-    let mut page = [0u8; 589824];
+fn show(rt: &HostRuntime, mode: Mode, given: Given) {
     match mode {
-        Mode::Person => {
-            let n = report::report(&mut page, kind, false, s, settings);
-            write(rt, &rt.stdout(), &page, n);
+        Mode::Report(audience) => {
+            let mut page = Page::new();
+            let written = report::report(&mut page, audience, given);
+            write_page(rt, &rt.stdout(), &page, written);
         }
-        Mode::Script => {
-            let n = report::report(&mut page, kind, true, s, settings);
-            write(rt, &rt.stdout(), &page, n);
-        }
-        Mode::Plain => show_plain(rt, &mut page, kind, settings, s),
+        Mode::Plain => show_plain(rt, &mut [0; ROOM], given),
     }
 }
 
 // What has no plain form is told on standard error.
-fn show_plain(rt: &HostRuntime, page: &mut Page, kind: Kind, settings: Settings, s: &[u8]) {
-    let plain = restate::restate(page, kind, s, settings);
-    match plain {
-        Writing::Written(n) => write(rt, &rt.stdout(), page, n),
-        Writing::Unwritable => {
-            let n = report::no_plain_form(page, kind, s, settings);
-            write(rt, &rt.stderr(), page, n);
+fn show_plain(rt: &HostRuntime, form: &mut [u8; ROOM], given: Given) {
+    match restate::restate(form, given) {
+        Ok(n) => match form.get(..n) {
+            Some(text) => write(rt, &rt.stdout(), text),
+            None => refuse_size(rt),
+        },
+        Err(Unwritten::Unwritable) => {
+            let mut page = Page::new();
+            let written = report::no_plain_form(&mut page, given);
+            write_page(rt, &rt.stderr(), &page, written);
         }
-        Writing::Needs(_) => refuse_size(rt),
-        Writing::TooLong => refuse_size(rt),
+        Err(Unwritten::Needs(_) | Unwritten::TooLong) => refuse_size(rt),
     }
 }
 
-fn write(rt: &HostRuntime, to: &impl Print, page: &Page, n: usize) {
-    let all: &[u8] = page;
-    if all.len() < n {
-        refuse_size(rt);
-        return;
+fn write_page(rt: &HostRuntime, to: &impl Print, page: &Page, written: fmt::Result) {
+    match written {
+        Ok(()) => write(rt, to, page.text()),
+        Err(_) => refuse_size(rt),
     }
-    if let Err(error) = to.write_all(&all[0..n]) {
+}
+
+fn write(rt: &HostRuntime, to: &impl Print, text: &[u8]) {
+    if let Err(error) = to.write_all(text) {
         system::tell_why(rt, b"headread: what was found cannot be written", error);
     }
 }

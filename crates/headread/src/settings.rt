@@ -1,26 +1,14 @@
 // The settings, which stand before all other arguments, in any order.
 ghost use Rattle.std.specs.Prelude.{◌≤◌};
 
-use crate::system::{argument, room, same};
+use crate::system::{argument, room};
 use rules::Settings;
 
 // How many settings there are.
 const SETTINGS: usize = 7;
 
-#[derive(Drop)]
-enum Setting {
-    AsciiTargets,
-    SpacesInRequestLine,
-    SpacesInStatusLine,
-    SpaceBeforeFirstName,
-    SpacesAfterName,
-    MultilineHeaders,
-    IgnoreInvalidHeaders,
-    Other,
-}
-
 // What was asked for, and which argument is the first that is no setting.
-#[derive(Drop)]
+#[derive(Clone, Copy)]
 pub struct Taken {
     pub settings: Settings,
     pub next: usize,
@@ -29,65 +17,34 @@ pub struct Taken {
 pub fn first(rt: &HostRuntime) -> Taken
     ensures { result.next ≤ 8 }
 {
-    let mut settings = Settings {
-        ascii_targets: false,
-        spaces_in_request_line: false,
-        spaces_in_status_line: false,
-        space_before_first_name: false,
-        spaces_after_name: false,
-        multiline_headers: false,
-        ignore_invalid_headers_in_requests: false,
-        ignore_invalid_headers_in_responses: false,
-    };
-    let mut next = 1;
-    while next <= SETTINGS {
-        let setting = setting_at(rt, next);
-        match setting {
-            Setting::AsciiTargets => settings.ascii_targets = true,
-            Setting::SpacesInRequestLine => settings.spaces_in_request_line = true,
-            Setting::SpacesInStatusLine => settings.spaces_in_status_line = true,
-            Setting::SpaceBeforeFirstName => settings.space_before_first_name = true,
-            Setting::SpacesAfterName => settings.spaces_after_name = true,
-            Setting::MultilineHeaders => settings.multiline_headers = true,
-            // one flag for both, since the call names what is read
-            Setting::IgnoreInvalidHeaders => {
-                settings.ignore_invalid_headers_in_requests = true;
-                settings.ignore_invalid_headers_in_responses = true;
-            }
-            Setting::Other => return Taken { settings, next },
+    let mut settings = Settings::default();
+    for next in 1..=SETTINGS {
+        let mut room = room();
+        if !set(&mut settings, argument(rt, next, &mut room)) {
+            return Taken { settings, next };
         }
-        next += 1;
     }
-    Taken { settings, next }
+    Taken {
+        settings,
+        next: SETTINGS + 1,
+    }
 }
 
-fn setting_at(rt: &HostRuntime, at: usize) -> Setting {
-    let mut room = room();
-    named(argument(rt, at, &mut room))
-}
-
-fn named(word: &[u8]) -> Setting {
-    if same(word, b"--ascii-targets") {
-        return Setting::AsciiTargets;
+// Sets what a word asks for. False where it is no setting.
+fn set(settings: &mut Settings, word: &[u8]) -> bool {
+    match word {
+        b"--ascii-targets" => settings.ascii_targets = true,
+        b"--spaces-in-request-line" => settings.spaces_in_request_line = true,
+        b"--spaces-in-status-line" => settings.spaces_in_status_line = true,
+        b"--space-before-first-name" => settings.space_before_first_name = true,
+        b"--spaces-after-name" => settings.spaces_after_name = true,
+        b"--multiline-headers" => settings.multiline_headers = true,
+        // one flag for both, since the call names what is read
+        b"--ignore-invalid-headers" => {
+            settings.ignore_invalid_headers_in_requests = true;
+            settings.ignore_invalid_headers_in_responses = true;
+        }
+        _ => return false,
     }
-    if same(word, b"--spaces-in-request-line") {
-        return Setting::SpacesInRequestLine;
-    }
-    if same(word, b"--spaces-in-status-line") {
-        return Setting::SpacesInStatusLine;
-    }
-    if same(word, b"--space-before-first-name") {
-        return Setting::SpaceBeforeFirstName;
-    }
-    if same(word, b"--spaces-after-name") {
-        return Setting::SpacesAfterName;
-    }
-    if same(word, b"--multiline-headers") {
-        return Setting::MultilineHeaders;
-    }
-    if same(word, b"--ignore-invalid-headers") {
-        Setting::IgnoreInvalidHeaders
-    } else {
-        Setting::Other
-    }
+    true
 }

@@ -9,10 +9,8 @@ pub fn room() -> [u8; 4096] {
 
 // An argument, put at the start of this room. None where there is no such argument, or it is longer.
 pub fn whole<'a>(rt: &HostRuntime, at: usize, room: &'a mut [u8]) -> Option<&'a [u8]> {
-    match rt.arg(at, room) {
-        Ok(n) => Some(&room[..n]),
-        Err(_) => None,
-    }
+    let n = rt.arg(at, room).ok()?;
+    Some(&room[..n])
 }
 
 // The same, with no byte in place of none.
@@ -31,15 +29,7 @@ pub fn count(rt: &HostRuntime) -> usize {
 }
 
 fn is_missing(rt: &HostRuntime, at: usize) -> bool {
-    let found = rt.arg(at, &mut []);
-    match found {
-        Err(FillError::NotPresent) => true,
-        _ => false,
-    }
-}
-
-pub fn same(a: &[u8], b: &[u8]) -> bool {
-    a == b
+    matches!(rt.arg(at, &mut []), Err(FillError::NotPresent))
 }
 
 // Where standard error can't be written, nobody can be told.
@@ -64,8 +54,6 @@ pub fn tell_why(rt: &HostRuntime, what: &[u8], error: io::Error) {
 
 // The system's own words. std puts the error's number behind them.
 fn without_number(text: &str) -> &str {
-    match text.split_once(" (os error ") {
-        Some((words, _)) => words,
-        None => text,
-    }
+    text.split_once(" (os error ")
+        .map_or(text, |(words, _)| words)
 }

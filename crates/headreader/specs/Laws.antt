@@ -6,8 +6,7 @@ use Rattle.rules.specs.declared.Settings.{Settings}
 use Rattle.rules.specs.Rules.{default}
 use Rattle.rules.specs.Settings.{request_rules, response_rules}
 use Rattle.blocks.specs.declared.Block.{Block}
-use Rattle.chunks.specs.declared.ChunkSize.{ChunkSize}
-use Rattle.chunks.specs.Chunk.{chunk, size_of}
+use Rattle.chunks.specs.Chunk.{ChunkSize, chunk, size_of}
 use Rattle.agreement.specs.Promises.{ChunkPromise, SizeFaultPromise}
 use Rattle.numbers.specs.Numbers.{settings_of, position_of, block_numbers, size_kind, size_numbers}
 use Rattle.headreader.specs.Exports.{RequestBy, ResponseBy, RequestExport, ResponseExport, SizeExport}

@@ -1,6 +1,6 @@
 -- A head: a start line and the header block behind it, whatever the start line is.
 -- Assumes nothing.
-use Rattle.std.specs.Prelude.{ℕ, ◌≡◌, refl, List, [], length, drop}
+use Rattle.std.specs.Prelude.{ℕ, ◌≡◌, refl, List, [], length, drop, Err, Ok}
 use Rattle.std.proofs.Common.{sym, ap, ◌∙◌}
 use Rattle.reader.specs.Machine.{Step, run_at}
 use Rattle.reader.specs.Judged.{pass, judged}
@@ -9,8 +9,9 @@ use Rattle.reader.specs.Answer.{Answer, got, short, bad, answer, retold, and, ei
 use Rattle.reader.proofs.Answer.{answer_judged, answer_seq}
 use Rattle.gaps.specs.Gap.{Behind}
 use Rattle.parts.specs.declared.Fault.{Fault}
-use Rattle.parts.specs.declared.Passed.{Passed}
-use Rattle.parts.specs.declared.Passed.TheVariants as passes
+use Rattle.parts.specs.declared.Unread.{Unread}
+use Rattle.parts.specs.declared.Unread.TheVariants.{More, Bad}
+use Rattle.parts.specs.Answers.{Passed}
 use Rattle.rules.specs.Rules.{Rules}
 use Rattle.startline.specs.Answers.{tell}
 use Rattle.fields.specs.declared.Header.{Header}
@@ -101,9 +102,9 @@ pub record Told {K : Type 0} (a : Heads K) (end : Passed) (line : K) (count : �
   pub slots : new ≡ filled (given a) old
 
 given_tell : {K : Type 0} (p : Passed) (k : K) (hs : List Header) → given (tell p (k, hs)) ≡ hs
-given_tell (passes.At q) k hs = refl
-given_tell passes.More k hs = refl
-given_tell (passes.Bad e) k hs = refl
+given_tell (Ok q) k hs = refl
+given_tell (Err More) k hs = refl
+given_tell (Err (Bad e)) k hs = refl
 
 tells : {K : Type 0} {a : Heads K} {end : Passed} {line : K} {count : ℕ} {old new : List ℕ} (hs : List Header) → tell end (line, hs) ≡ a → count ≡ length hs → new ≡ filled hs old → Told a end line count old new
 tells {a = a} {end = end} {line = line} hs e c f =
@@ -111,9 +112,9 @@ tells {a = a} {end = end} {line = line} hs e c f =
     record { answer = rw g e; count_is = rw g c; slots = rw g f }
 
 over_tell : {K : Type 0} (k : K) (p : Passed) (hs : List Header) → tell p (k, hs) ≡ over k (blocks.tell p hs)
-over_tell k (passes.At q) hs = refl
-over_tell k passes.More hs = refl
-over_tell k (passes.Bad e) hs = refl
+over_tell k (Ok q) hs = refl
+over_tell k (Err More) hs = refl
+over_tell k (Err (Bad e)) hs = refl
 
 -- the block's answer behind a start line that told k
 pub told_block : {K : Type 0} (k : K) {a : Blocks} {b : Block} {end : Passed} {count : ℕ} {old new : List ℕ} → blocks.Told a b old new → end ≡ b.end → count ≡ b.count → Told (over k a) end k count old new
@@ -121,11 +122,14 @@ told_block k {a} {b} t x y = tells (blocks.given a) (rw (x, over_tell k b.end (b
 
 -- the ways of a head, by how its start line ended
 module _ {K : Type 0} {line : K} {e : Passed} {a : Answer K K (Fault × K)} (h : tell e line ≡ a) where
-  pub head_on : {q : ℕ} → e ≡ passes.At q → (next : K → ℕ → Heads K) {end : Passed} {count : ℕ} {old new : List ℕ} → Told (next line q) end line count old new → Told (headed a next) end line count old new
+  pub head_on : {q : ℕ} → e ≡ Ok q → (next : K → ℕ → Heads K) {end : Passed} {count : ℕ} {old new : List ℕ} → Told (next line q) end line count old new → Told (headed a next) end line count old new
   head_on m next t = rw (← h, m) t
 
-  pub head_more : e ≡ passes.More → (next : K → ℕ → Heads K) (old : List ℕ) → Told (headed a next) passes.More line 0 old old
-  head_more m next old = tells [] (rw (← h, m)) refl (filled_none old)
+  pub head_stops : {x : Unread Fault} → e ≡ Err x → (next : K → ℕ → Heads K) (old : List ℕ) → Told (headed a next) (Err x) line 0 old old
+  head_stops {x} m next old = tells [] (rw (← h, m) (by x)) refl (filled_none old)
+    where
+      by : (y : Unread Fault) → tell (Err y) (line, []) ≡ headed (tell (Err y) line) next
+      by More = refl
+      by (Bad d) = refl
 
-  pub head_bad : {x : Fault} → e ≡ passes.Bad x → (next : K → ℕ → Heads K) (old : List ℕ) → Told (headed a next) (passes.Bad x) line 0 old old
-  head_bad m next old = tells [] (rw (← h, m)) refl (filled_none old)
+pub ruleset heads = (told_block, head_on, head_stops)

@@ -2,38 +2,31 @@
 #![tactic(auto)]
 
 ghost use Rattle.std.specs.Prelude.{◌≡◌, ◌≤◌, length};
-ghost use Rattle.reader.specs.Skip.{Skipped};
 ghost use Rattle.parts.specs.Answers.{passed};
 ghost use Rattle.ignored.specs.Rest.{is_ignorable, StartsIn, rest_of_line};
 
+use octets::Class;
 use parts::{Fault, Passed};
 
-// The end of the row of bytes that are neither NUL nor of a line's end, from `at` on.
-fn skip_ignorable(s: &[u8], at: usize) -> usize
-    ensures { Skipped is_ignorable s.now at result }
-{
-    let mut i = at;
-    while i < s.len() {
-        if s[i] == 0 {
-            return i;
-        }
-        if s[i] == 13 {
-            return i;
-        }
-        if s[i] == 10 {
-            return i;
-        }
-        i += 1;
+// The bytes that are neither NUL nor of a line's end.
+struct Ignorable;
+
+impl Class for Ignorable {
+    ghost holds = { is_ignorable };
+
+    #[tactic(auto, unfolding(crate::specs::Rest::is_ignorable))]
+    fn holds(b: u8) -> bool {
+        !((b == 0) | (b == 13) | (b == 10))
     }
-    i
 }
 
 // Where the line's end begins: at a CR right before the wrong byte, if the line that began at `at` has one there.
+#[tactic(auto, using(crate::proofs::RestOfLine::rests))]
 fn start(s: &[u8], at: usize, wrong: usize) -> usize
     ensures { StartsIn s.now at wrong result }
 {
     if wrong <= at {
-        return skip_ignorable(s, wrong);
+        return skips::skip_each::<Ignorable>(s, wrong);
     }
     if s.len() < wrong {
         return wrong;
@@ -41,7 +34,7 @@ fn start(s: &[u8], at: usize, wrong: usize) -> usize
     if s[wrong - 1] == 13 {
         return wrong - 1;
     }
-    skip_ignorable(s, wrong)
+    skips::skip_each::<Ignorable>(s, wrong)
 }
 
 // The end of the line that began at `at`, in which a byte is wrong; a NUL on the way, or a CR without LF, is the same error there.

@@ -1,13 +1,14 @@
 -- What stands between a header's name and its colon (RFC 9112, 5.1): spaces and tabs where they are allowed, and nothing else.
 -- Assumes nothing.
-use Rattle.std.specs.Prelude.{ℕ, ◌+◌, ◌-◌, ◌≤◌, ◌<◌, ◌≡◌, refl, List, Bool, true, false, length, get_or}
+use Rattle.std.specs.Prelude.{ℕ, ◌+◌, ◌-◌, ◌≤◌, ◌<◌, ◌≡◌, refl, List, Bool, true, false, length, get_or, Err, Ok}
 use Rattle.std.proofs.Common.{arith, sym, ap, subst, ◌∙◌, eqb-true, eq-eqb, ne_eqb}
 use Rattle.std.proofs.Math.Decide.{dec_lt}
 use Rattle.std.proofs.Math.Bool.{and-false}
+use Rattle.std.specs.Result.{IsErrAnd}
 use Rattle.reader.specs.Tests.{both_true, never, clash}
 use Rattle.reader.specs.Skip.{Skipped}
 use Rattle.reader.proofs.Skip.{told_true, told_false}
-use Rattle.reader.specs.Answer.{Answer, got, bad}
+use Rattle.reader.specs.Answer.{got, short, bad}
 use Rattle.reader.specs.Chain.{ended}
 use Rattle.octets.specs.Class.{is_token, is_blank}
 use Rattle.octets.specs.Grammar.{IsTchar, IsBlank}
@@ -18,10 +19,11 @@ use Rattle.gaps.proofs.Gap.{end_skipped}
 use Rattle.rules.specs.Rules.{Rules}
 use Rattle.parts.specs.declared.Error.TheVariants.{HeaderName}
 use Rattle.parts.specs.declared.Fault.{Fault}
-use Rattle.parts.specs.declared.Passed.{Passed}
-use Rattle.parts.specs.declared.Passed.TheVariants.{At, More, Bad}
+use Rattle.parts.specs.declared.Unread.{Unread}
+use Rattle.parts.specs.declared.Unread.TheVariants.{More, Bad}
 use Rattle.parts.specs.declared.Piece.{Piece}
-use Rattle.parts.specs.Answers.{piece, fault, passed}
+use Rattle.parts.specs.Answers.{Passed, piece, fault, passed, refusal, stopped}
+use Rattle.parts.specs.Byte.{Is, IsPast}
 use Rattle.names.specs.Name.{is_colon, before_colon, name, name_none, name_not, name_more, colon_more, colon_there, colon_not}
 use Rattle.names.specs.Colon.{BehindName, Blanks, NameToColon, ToColon, end}
 
@@ -86,15 +88,22 @@ module _ (r : Rules) (xs : List ℕ) (at : ℕ) (a : Piece) (q : ℕ) (g : name 
   name_to_colon = by_first (dec_lt at (length xs)) (is_token (get_or xs at 0)) refl
 
 -- what the code finds behind the blanks that it passes over
-module _ {allowed : Bool} {xs : List ℕ} {end q : ℕ} (s : Skipped (blanks_if allowed) xs end q) where
-  pub input_ended : length xs ≤ q → BehindName allowed xs end More
-  input_ended l k lo hi = all_blanks s k lo (omega arith)
+module _ (allowed : Bool) (xs : List ℕ) (end : ℕ) {q : ℕ} (s : Skipped (blanks_if allowed) xs end q) where
+  pub input_ended : (x : Unread Fault) → IsPast xs q x → BehindName allowed xs end (Err x)
+  input_ended More l = λ k lo hi. all_blanks s k lo (omega (arith, l.past))
+  input_ended (Bad y) l = let w = l.more in never cc
 
-  pub there_colon : q < length xs → get_or xs q 0 ≡ 58 → BehindName allowed xs end (At (q + 1))
-  there_colon l t = (colon_found s l (eq-eqb _ _ t), refl)
+  module _ {b : ℕ} (l : Is xs q b) where
+    pub there_colon : b ≡ 58 → BehindName allowed xs end (Ok (q + 1))
+    there_colon t = (colon_found s l.inside (rw (← l.there) (eq-eqb _ _ t)), refl)
 
-  pub no_colon : q < length xs → (get_or xs q 0 ≡ 58 → ⊥) → BehindName allowed xs end (Bad (fault HeaderName q))
-  no_colon l t = (refl, s.passed.from, l, all_blanks s, t, λ e b. let u : blanks_if allowed (get_or xs q 0) ≡ true = rw e ((blank_is_blank (get_or xs q 0)).1 b) in clash u (s.stop l))
+    pub no_colon : (b ≡ 58 → ⊥) → (x : Unread Fault) → x ≡ refusal HeaderName q → BehindName allowed xs end (Err x)
+    no_colon t x i = rw i (refl, s.passed.from, l.inside, all_blanks s, (λ e. t (l.there ∙ e)), λ e d. let u : blanks_if allowed (get_or xs q 0) ≡ true = rw e ((blank_is_blank (get_or xs q 0)).1 d) in clash u (s.stop l.inside))
+
+-- what its `?` hands on is what it found
+pub colon_stopped : (allowed : Bool) (xs : List ℕ) (end : ℕ) (m : Passed) (e : Unread Fault) → IsErrAnd m (λ d. d ≡ e) → BehindName allowed xs end (Err e) → BehindName allowed xs end m
+colon_stopped allowed xs end (Ok q) e h b = absurd h
+colon_stopped allowed xs end (Err d) e h b = rw h b
 
 pub ruleset behind = (input_ended, there_colon, no_colon)
 
@@ -118,17 +127,34 @@ module _ (r : Rules) (xs : List ℕ) (at : ℕ) {e : ℕ} (h : at < length xs) (
   }
 
   name_is : (p : Passed) → BehindName r.spaces_after_name xs e p → ended (piece at e) (passed p) ≡ name r xs at
-  name_is More b = colon_more r xs at h c k l (only_blanks (omega arith) (omega arith) b (λ p. absurd (omega arith))) (omega arith)
-  name_is (At q) b =
+  name_is (Err More) b = colon_more r xs at h c k l (only_blanks (omega arith) (omega arith) b (λ p. absurd (omega arith))) (omega arith)
+  name_is (Ok q) b =
       let w = b.0 in
       ap (got (piece at e)) b.1
       ∙ colon_there r xs at h c k l (only_blanks w.behind (omega (arith, w.inside)) w.between (λ _. rw w.there (colon_stops r.spaces_after_name))) w.inside (eq-eqb _ _ w.there)
-  name_is (Bad x) b =
+  name_is (Err (Bad x)) b =
       let same : x ≡ fault HeaderName x.position = ap (λ y. fault y x.position) b.0 in
       ap bad same ∙ colon_not r xs at h c k l (only_blanks b.1 (omega (arith, b.2)) b.3 (λ _. wrong_stops b.5)) b.2 (ne_eqb _ _ b.4)
 
-  -- p is what `colon` found, and f what the arm took it for
-  pub name_behind : {p f : Passed} {z : Answer (Unit {0}) Piece Fault} → BehindName r.spaces_after_name xs e p → p ≡ f → z ≡ ended (piece at e) (passed f) → z ≡ name r xs at
-  name_behind {p} b i g = g ∙ rw (← i) (name_is p b)
+-- and so what `name` reads, of which the first byte is b
+module _ (r : Rules) (xs : List ℕ) (at : ℕ) where
+  pub name_missing : {x : Unread Fault} → IsPast xs at x → stopped x ≡ name r xs at
+  name_missing h = rw h.more (name_none r xs at h.past)
 
-pub ruleset names = (name_none, name_not, name_more, name_behind, told_true, told_false)
+  module _ {b : ℕ} (h : Is xs at b) where
+    pub name_wrong : is_token b ≡ false → {x : Unread Fault} → x ≡ refusal HeaderName at → stopped x ≡ name r xs at
+    name_wrong c i = rw i (name_not r xs at h.inside (rw (← h.there) c))
+
+    module _ (c : is_token b ≡ true) {e : ℕ} (k : Skipped is_token xs (at + 1) e) where
+      pub name_cut : length xs ≤ e → short tt ≡ name r xs at
+      name_cut l = name_more r xs at h.inside (rw (← h.there) c) k l
+
+      module _ (l : e < length xs) where
+        pub name_ends : {q : ℕ} → BehindName r.spaces_after_name xs e (Ok q) → got (piece at e) q ≡ name r xs at
+        name_ends {q} b = name_is r xs at h.inside (rw (← h.there) c) k l (Ok q) b
+
+        pub name_stops : (x : Unread Fault) → BehindName r.spaces_after_name xs e (Err x) → stopped x ≡ name r xs at
+        name_stops More b = name_is r xs at h.inside (rw (← h.there) c) k l (Err More) b
+        name_stops (Bad y) b = name_is r xs at h.inside (rw (← h.there) c) k l (Err (Bad y)) b
+
+pub ruleset names = (name_missing, name_wrong, name_cut, name_ends, name_stops, told_true, told_false)

@@ -1,15 +1,15 @@
 -- What stands between a header's name and its colon (RFC 9112, 5.1): spaces and tabs where they are allowed, and nothing else.
 -- The theorems stand in proofs/ToColon.antt. Assumes nothing.
-use Rattle.std.specs.Prelude.{ℕ, ◌+◌, ◌≤◌, ◌<◌, ◌≡◌, List, Bool, true, length, get_or}
+use Rattle.std.specs.Prelude.{ℕ, ◌+◌, ◌≤◌, ◌<◌, ◌≡◌, List, Bool, true, Ok, Err, length, get_or}
 use Rattle.reader.specs.Answer.{got}
 use Rattle.octets.specs.Class.{is_token}
 use Rattle.octets.specs.Grammar.{IsTchar, IsBlank}
 use Rattle.gaps.specs.Gap.{gap_end}
 use Rattle.rules.specs.Rules.{Rules}
 use Rattle.parts.specs.declared.Error.TheVariants.{HeaderName}
-use Rattle.parts.specs.declared.Passed.{Passed}
-use Rattle.parts.specs.declared.Passed.TheVariants.{At, More, Bad}
+use Rattle.parts.specs.declared.Unread.TheVariants.{More, Bad}
 use Rattle.parts.specs.declared.Piece.{Piece}
+use Rattle.parts.specs.Answers.{Passed}
 use Rattle.names.specs.Name.{name}
 
 -- each byte from i up to j is a space or a tab, and they are allowed: where they are not there is none
@@ -33,9 +33,9 @@ pub record NameToColon (allowed : Bool) (xs : List ℕ) (a : Piece) : Type 0 whe
 -- what is found behind a name's end: its colon, and where it ends; the end of the input, behind blanks; or the first byte that is neither
 -- the colon nor a blank that is allowed
 abbrev pub BehindName : Bool → List ℕ → ℕ → Passed → Type 0
-BehindName allowed xs end (At q) = (k : ToColon allowed xs end) × (q ≡ k.colon + 1)
-BehindName allowed xs end More = Blanks allowed xs end (length xs)
-BehindName allowed xs end (Bad x) =
+BehindName allowed xs end (Ok q) = (k : ToColon allowed xs end) × (q ≡ k.colon + 1)
+BehindName allowed xs end (Err More) = Blanks allowed xs end (length xs)
+BehindName allowed xs end (Err (Bad x)) =
     (x.error ≡ HeaderName) × (end ≤ x.position) × (x.position < length xs) × Blanks allowed xs end x.position
     × (get_or xs x.position 0 ≡ 0x3A → ⊥) × (allowed ≡ true → IsBlank (get_or xs x.position 0) → ⊥)
 

@@ -2,15 +2,36 @@
 #![tactic(auto)]
 
 ghost use Rattle.std.specs.Prelude.{◌≡◌, ◌≤◌};
-ghost use Rattle.startline.specs.Answers.{number_of};
-ghost use Rattle.numbers.specs.Numbers.{settings_of, error_number, kind_of, position_of, piece_of, piece_bit, number_bit, placed, request_numbers, response_numbers};
+ghost use Rattle.numbers.specs.Numbers.{settings_of, error_number, kind_of, position_of, bit_of, placed, request_numbers, response_numbers};
 
 use heads::{RequestHead, ResponseHead};
-use parts::{Error, Passed, Piece};
+use parts::{Error, Passed, Piece, Unread};
 use rules::Settings;
-use startline::{KnownNumber, KnownPiece};
 
-// The number of an error.
+// What a piece that is not known, or is empty, is told as.
+const NOWHERE: Piece = Piece {
+    offset: 0,
+    length: 0,
+};
+
+// The bits by which C asks for settings, as include/headreader.h has them.
+const SPACES_AFTER_NAME: u32 = 1;
+
+const MULTILINE_HEADERS: u32 = 2;
+
+const SPACES_IN_REQUEST_LINE: u32 = 4;
+
+const SPACES_IN_STATUS_LINE: u32 = 8;
+
+const SPACE_BEFORE_FIRST_NAME: u32 = 16;
+
+const IGNORE_IN_RESPONSES: u32 = 32;
+
+const IGNORE_IN_REQUESTS: u32 = 64;
+
+const ASCII_TARGETS: u32 = 128;
+
+// The number of an error, since C has no enum of ours.
 pub fn error_number(e: Error) -> u32
     ensures { result ≡ error_number e }
 {
@@ -25,17 +46,14 @@ pub fn error_number(e: Error) -> u32
     }
 }
 
-// 0 for complete, 1 for incomplete, and a number from 2 on for each error.
+// 0 for complete, 1 for incomplete, and a number from 2 on for each error, since C has no Result.
 pub fn kind(end: Passed) -> u32
     ensures { result ≡ kind_of end }
 {
     match end {
-        Passed::At(_) => 0,
-        Passed::More => 1,
-        Passed::Bad(fault) => {
-            let error = fault.error;
-            error_number(error)
-        }
+        Ok(_) => 0,
+        Err(Unread::More) => 1,
+        Err(Unread::Bad(fault)) => error_number(fault.error),
     }
 }
 
@@ -44,125 +62,75 @@ pub fn position(end: Passed) -> usize
     ensures { result ≡ position_of end }
 {
     match end {
-        Passed::At(next) => next,
-        Passed::More => 0,
-        Passed::Bad(fault) => fault.position,
-    }
-}
-
-// What is not known is 0.
-fn piece(known: KnownPiece) -> Piece
-    ensures { result ≡ piece_of known }
-{
-    match known {
-        KnownPiece::Is(p) => p,
-        KnownPiece::NotYet => Piece {
-            offset: 0,
-            length: 0,
-        },
-    }
-}
-
-fn number(known: KnownNumber) -> usize
-    ensures { result ≡ number_of known }
-{
-    match known {
-        KnownNumber::Is(n) => n,
-        KnownNumber::NotYet => 0,
+        Ok(next) => next,
+        Err(Unread::More) => 0,
+        Err(Unread::Bad(fault)) => fault.position,
     }
 }
 
 // The bit where something is known, else 0.
-fn piece_bit(known: KnownPiece, bit: usize) -> usize
-    ensures value { result ≡ piece_bit known bit }
+fn bit<T: Copy>(known: Option<T>, bit: usize) -> usize
+    ensures value { result ≡ bit_of known bit }
     ensures upper_bound { result ≤ bit }
 {
-    match known {
-        KnownPiece::Is(_) => bit,
-        KnownPiece::NotYet => 0,
-    }
+    if known.is_some() { bit } else { 0 }
 }
 
-fn number_bit(known: KnownNumber, bit: usize) -> usize
-    ensures value { result ≡ number_bit known bit }
-    ensures upper_bound { result ≤ bit }
-{
-    match known {
-        KnownNumber::Is(_) => bit,
-        KnownNumber::NotYet => 0,
-    }
-}
-
-// An empty piece is told as 0, 0.
+// An empty piece is told as nowhere.
 fn placed_piece(p: Piece) -> Piece
     ensures { result ≡ placed p }
 {
-    if p.length == 0 {
-        return Piece {
-            offset: 0,
-            length: 0,
-        };
-    }
-    p
+    if p.length == 0 { NOWHERE } else { p }
 }
 
 pub fn put_request(out: &mut [usize; 8], head: RequestHead)
     ensures { out.new ≡ request_numbers head }
 {
-    let end = head.end;
     let line = head.line;
-    let method = line.method;
-    let target = line.target;
-    let version = line.version;
-    let known = piece_bit(method, 1) + piece_bit(target, 2) + number_bit(version, 4);
-    let first = piece(method);
-    let second = piece(target);
+    let method = line.method.unwrap_or(NOWHERE);
+    let target = line.target.unwrap_or(NOWHERE);
     *out = [
-        position(end),
+        position(head.end),
         head.count,
-        known,
-        first.offset,
-        first.length,
-        second.offset,
-        second.length,
-        number(version),
+        bit(line.method, 1) + bit(line.target, 2) + bit(line.version, 4),
+        method.offset,
+        method.length,
+        target.offset,
+        target.length,
+        line.version.unwrap_or(0),
     ];
 }
 
 pub fn put_response(out: &mut [usize; 8], head: ResponseHead)
     ensures { out.new ≡ response_numbers head }
 {
-    let end = head.end;
     let line = head.line;
-    let version = line.version;
-    let code = line.code;
-    let reason = line.reason;
-    let known = number_bit(version, 4) + number_bit(code, 8) + piece_bit(reason, 16);
-    let text = placed_piece(piece(reason));
+    let reason = placed_piece(line.reason.unwrap_or(NOWHERE));
     *out = [
-        position(end),
+        position(head.end),
         head.count,
-        known,
-        number(version),
-        number(code),
-        text.offset,
-        text.length,
+        bit(line.version, 4) + bit(line.code, 8) + bit(line.reason, 16),
+        line.version.unwrap_or(0),
+        line.code.unwrap_or(0),
+        reason.offset,
+        reason.length,
         0,
     ];
 }
 
 // What each bit asks for; a bit without a meaning has no effect.
+#[tactic(auto, using(crate::specs::Laws::all_asked))]
 pub fn settings_of(bits: u32) -> Settings
     ensures { result ≡ settings_of bits }
 {
     Settings {
-        ascii_targets: (bits / 128) % 2 == 1,
-        spaces_in_request_line: (bits / 4) % 2 == 1,
-        spaces_in_status_line: (bits / 8) % 2 == 1,
-        space_before_first_name: (bits / 16) % 2 == 1,
-        spaces_after_name: bits % 2 == 1,
-        multiline_headers: (bits / 2) % 2 == 1,
-        ignore_invalid_headers_in_requests: (bits / 64) % 2 == 1,
-        ignore_invalid_headers_in_responses: (bits / 32) % 2 == 1,
+        ascii_targets: bits & ASCII_TARGETS != 0,
+        spaces_in_request_line: bits & SPACES_IN_REQUEST_LINE != 0,
+        spaces_in_status_line: bits & SPACES_IN_STATUS_LINE != 0,
+        space_before_first_name: bits & SPACE_BEFORE_FIRST_NAME != 0,
+        spaces_after_name: bits & SPACES_AFTER_NAME != 0,
+        multiline_headers: bits & MULTILINE_HEADERS != 0,
+        ignore_invalid_headers_in_requests: bits & IGNORE_IN_REQUESTS != 0,
+        ignore_invalid_headers_in_responses: bits & IGNORE_IN_RESPONSES != 0,
     }
 }

@@ -1,6 +1,6 @@
 -- Two heads at the start of the same bytes are one head, with the same fields; so no head is the start of another.
 -- Assumes nothing.
-use Rattle.std.specs.Prelude.{ℕ, ◌+◌, ◌≤◌, ◌≡◌, refl, List, ◌++◌, length, take, drop}
+use Rattle.std.specs.Prelude.{ℕ, ◌+◌, ◌≤◌, ◌≡◌, refl, List, ◌++◌, length, take, drop, None, Option, Some}
 use Rattle.std.proofs.Common.{arith, sym, ap, subst, ◌∙◌, take_at, drop_at}
 use Rattle.reader.specs.Tests.{clash}
 use Rattle.reader.specs.Machine.{gave, run}
@@ -9,11 +9,8 @@ use Rattle.rules.specs.Rules.{Rules, default}
 use Rattle.grammar.specs.Fields.{Field}
 use Rattle.grammar.specs.Message.{Version, HTTP_version, one_zero, one_one, RequestLine, IsRequestHead, IsStatusCode, StatusLine, IsStatusLine, IsResponseHead}
 use Rattle.grammar.specs.Message as grammar
+use Rattle.parts.specs.declared.Piece.{Piece}
 use Rattle.fields.specs.declared.Header.{Header}
-use Rattle.startline.specs.declared.KnownPiece.{KnownPiece}
-use Rattle.startline.specs.declared.KnownPiece.TheVariants as pieces
-use Rattle.startline.specs.declared.KnownNumber.{KnownNumber}
-use Rattle.startline.specs.declared.KnownNumber.TheVariants as numbers
 use Rattle.requestline.specs.declared.RequestLine as told
 use Rattle.statusline.specs.declared.StatusLine as told_status
 use Rattle.heads.specs.Head.{Heads, Known}
@@ -52,13 +49,13 @@ module _ {L K : Type 0} {Head : List ℕ → L → List Field → Type 0} {Says 
       let says : Says (v ++ s) A.k m = subst (λ y. Says y A.k m) (sym e) (subst (λ y. Says (w ++ t) y m) (sym u.0) B.says) in
       (same_start v s w t e u.2, one_line v w l m fs gs h i (v ++ s) A.k A.says says, sym A.holds ∙ ap (λ y. fields_of y A.hs) e ∙ ap (fields_of (w ++ t)) u.1 ∙ B.holds)
 
-holds_same : (z : List ℕ) (a : KnownPiece) {v w : List ℕ} → Holds z a v → Holds z a w → v ≡ w
-holds_same z (pieces.Is a) h i = sym h ∙ i
-holds_same z pieces.NotYet h i = absurd h
+holds_same : (z : List ℕ) (a : Option Piece) {v w : List ℕ} → Holds z a v → Holds z a w → v ≡ w
+holds_same z (Some a) h i = sym h ∙ i
+holds_same z None h i = absurd h
 
-counts_same : (a : KnownNumber) {m n : ℕ} → Counts a m → Counts a n → m ≡ n
-counts_same (numbers.Is a) h i = sym h ∙ i
-counts_same numbers.NotYet h i = absurd h
+counts_same : (a : Option ℕ) {m n : ℕ} → Counts a m → Counts a n → m ≡ n
+counts_same (Some a) h i = sym h ∙ i
+counts_same None h i = absurd h
 
 -- where versions are known the major number is 1, the minor one a digit, and a code has three digits
 version_one : {r : Rules} {w : List ℕ} {v : Version} → Fixed r → HTTP_version r w v → (v.major ≡ 1) × (v.minor ≤ 9)

@@ -1,6 +1,6 @@
 -- What is not lost where invalid lines are ignored: a block line by line, in bytes.
 -- Assumes nothing.
-use Rattle.std.specs.Prelude.{ℕ, ◌≡◌, refl, List, [], ◌∷◌, ◌++◌, Bool, true, false, length}
+use Rattle.std.specs.Prelude.{ℕ, ◌≡◌, refl, List, [], ◌∷◌, ◌++◌, Bool, true, false, length, Ok}
 use Rattle.std.proofs.Common.{arith, sym, ap, subst, ◌∙◌, append_assoc, append-nil}
 use Rattle.reader.specs.Tests.{clash, never}
 use Rattle.octets.specs.Grammar.{IsFieldVchar, IsTchar, IsBlank, IsText}
@@ -12,8 +12,7 @@ use Rattle.grammar.specs.Rows.{Many, none, more, Some, some}
 use Rattle.grammar.specs.Fields.{Field}
 use Rattle.grammar.specs.Message.{IsLineEnd, colon, IsBehindName, IsAroundValue, IsWithinValue, IsValueLines, IsFieldLine, IsBeforeFirstName, IsIgnorable, IsIgnoredLine, IsHeaderBlock, head}
 use Rattle.grammar.specs.Message as grammar
-use Rattle.parts.specs.declared.Passed.{Passed}
-use Rattle.parts.specs.declared.Passed.TheVariants.{At}
+use Rattle.parts.specs.Answers.{Passed}
 use Rattle.agreement.specs.Places.{at_start}
 use Rattle.agreement.specs.Rows.{many_append}
 use Rattle.agreement.specs.Around.{around_within}
@@ -177,5 +176,5 @@ by_head t e i (grammar.head.message {e = u} {w = v} {c = c} {b = b} empty line_i
 
 -- of every request and response, whatever is set
 module _ {L K : Type 0} {r : Rules} {start_line : List ℕ → L → Type 0} {Says : List ℕ → K → L → Type 0} {In : List ℕ → K → Type 0} {s old : List ℕ} {end : Passed} {line : K} {count : ℕ} {new : List ℕ} where
-  pub head_by_line : HeadPromise r (head r start_line) Says In s old end line count new → {q : ℕ} → end ≡ At q → HeadByLine r s q (fields_in s count new)
+  pub head_by_line : HeadPromise r (head r start_line) Says In s old end line count new → {q : ℕ} → end ≡ Ok q → HeadByLine r s q (fields_in s count new)
   head_by_line P {q} e = let H = P.complete q e in by_head H.rest H.whole H.end H.head

@@ -9,8 +9,7 @@ use Rattle.reader.specs.Tests.{split}
 use Rattle.rules.specs.Rules.{Rules, default}
 use Rattle.parts.specs.declared.Error.TheVariants.{TooManyHeaders}
 use Rattle.parts.specs.declared.Fault.{Fault}
-use Rattle.parts.specs.Answers.{fault}
-use Rattle.parts.specs.declared.Passed.{Passed}
+use Rattle.parts.specs.Answers.{Passed, fault}
 use Rattle.parts.specs.EmptyLines.{start}
 use Rattle.fields.specs.declared.Header.{Header}
 use Rattle.fields.specs.Line.{Kind, header, end, ignored}

@@ -1,23 +1,18 @@
 -- What was read can be written; a call on what was written is complete at its end and gives the same fields back; and written again
 -- these are the same bytes.
 -- Assumes nothing.
-use Rattle.std.specs.Prelude.{ℕ, ◌*◌, ◌/◌, ◌≤◌, ◌≡◌, refl, List, ◌++◌, true, false, length, take, drop}
+use Rattle.std.specs.Prelude.{ℕ, ◌*◌, ◌/◌, ◌≤◌, ◌≡◌, refl, List, ◌++◌, true, false, length, take, drop, Err, None, Ok, Option, Some}
 use Rattle.std.proofs.Common.{arith, sym, ap, subst, ◌∙◌, length-append, take_at}
 use Rattle.rules.specs.Rules.{Rules, strict, default}
 use Rattle.grammar.specs.Rows.{Many}
 use Rattle.grammar.specs.Fields.{Field}
 use Rattle.grammar.specs.Message.{Version, IsRequestTarget, IsRequestHead, IsStatusCode, IsResponseHead, IsHeaderBlock}
 use Rattle.grammar.specs.Message as grammar
-use Rattle.parts.specs.declared.Passed.{Passed}
-use Rattle.parts.specs.declared.Passed.TheVariants.{At}
-use Rattle.startline.specs.declared.KnownPiece.{KnownPiece}
-use Rattle.startline.specs.declared.KnownPiece.TheVariants as pieces
-use Rattle.startline.specs.declared.KnownNumber.{KnownNumber}
-use Rattle.startline.specs.declared.KnownNumber.TheVariants as numbers
+use Rattle.parts.specs.declared.Piece.{Piece}
+use Rattle.parts.specs.Answers.{Passed}
 use Rattle.requestline.specs.declared.RequestLine.{RequestLine}
 use Rattle.statusline.specs.declared.StatusLine.{StatusLine}
-use Rattle.heads.specs.declared.RequestHead.{RequestHead}
-use Rattle.heads.specs.declared.ResponseHead.{ResponseHead}
+use Rattle.heads.specs.declared.Head.{Head}
 use Rattle.blocks.specs.declared.Block.{Block}
 use Rattle.agreement.specs.Starts.{Fixed, default_fixed}
 use Rattle.agreement.specs.Known.{Holds, Counts, RequestSays, StatusSays, Inside, fields_in}
@@ -30,9 +25,8 @@ use Rattle.plain.proofs.Derived.{plain_block, plain_request_under, target_defaul
 use Rattle.startline.specs.Answers.{number_of}
 use Rattle.plain.specs.Short.{request_short, response_short, block_short}
 use Rattle.places.specs.Lies.{bytes_of, one_point, request_of, status_of, Complete, Lies, AtMost, RequestLies, ResponseLies, BlockLies}
-use Rattle.writer.specs.declared.Writing.{Writing}
-use Rattle.writer.specs.declared.Writing.TheVariants.{Written, Unwritable}
-use Rattle.writer.specs.Promise.{request_form, response_form, block_form, PlainPromise, was_written, refused, writes, asks}
+use Rattle.writer.specs.declared.Unwritten.TheVariants.{Unwritable}
+use Rattle.writer.specs.Promise.{Writing, request_form, response_form, block_form, PlainPromise, was_written, refused, writes, asks}
 use Rattle.onereading.specs.Statements.{CanBeWritten, ReadBack, WrittenAgain}
 use Rattle.onereading.proofs.Derivation.{request_one, response_one}
 use Rattle.onereading.specs.RoundTrip.{Again, BlockPromise, RequestPromise, ResponsePromise, Takes, by_default, by_own}
@@ -42,7 +36,7 @@ use Rattle.onereading.specs.RoundTrip.{Again, BlockPromise, RequestPromise, Resp
 module _ {L K : Type 0} {Head Head' : List ℕ → L → List Field → Type 0} {Says : List ℕ → K → L → Type 0} {In : List ℕ → K → Type 0} (told : List ℕ → K → L) (plain : L → List Field → List ℕ) (told_said : (z : List ℕ) (k : K) (w : List ℕ) (l : L) (fs : List Field) → Head w l fs → Says z k l → told z k ≡ l)
     (told_said' : (z : List ℕ) (k : K) (w : List ℕ) (l : L) (fs : List Field) → Head' w l fs → Says z k l → told z k ≡ l) (derived : (w : List ℕ) (l : L) (fs : List Field) → Head w l fs → OneLine fs → Head' (plain l fs) l fs) where
   -- a call is complete, with values that stand on one line each
-  module _ {r : Rules} {s old : List ℕ} {end : Passed} {line : K} {count : ℕ} {new : List ℕ} (P : HeadPromise r Head Says In s old end line count new) {q : ℕ} (e : end ≡ At q) (o : OneLine (fields_in s count new)) where
+  module _ {r : Rules} {s old : List ℕ} {end : Passed} {line : K} {count : ℕ} {new : List ℕ} (P : HeadPromise r Head Says In s old end line count new) {q : ℕ} (e : end ≡ Ok q) (o : OneLine (fields_in s count new)) where
     abbrev form : List ℕ
     form = plain (told s line) (fields_in s count new)
 
@@ -62,7 +56,7 @@ module _ {L K : Type 0} {Head Head' : List ℕ → L → List Field → Type 0} 
         (writes W v, asks W v (omega (arith, l, ap length H.whole, length-append H.bytes H.rest)))
 
     -- its plain form is written over out, and what begins with the bytes written is read by a call with slots enough
-    module _ {Writable : Type 0} {out : List ℕ} {x : Writing} {out' : List ℕ} {n : ℕ} (W : PlainPromise s Writable form out x out') (w : x ≡ Written n) where
+    module _ {Writable : Type 0} {out : List ℕ} {x : Writing} {out' : List ℕ} {n : ℕ} (W : PlainPromise s Writable form out x out') (w : x ≡ Ok n) where
       bytes_written : take n out' ≡ form
       bytes_written = let y = was_written W w in ap (take n) y.3 ∙ take_at form (drop n out) n (sym y.1)
 
@@ -73,7 +67,7 @@ module _ {L K : Type 0} {Head Head' : List ℕ → L → List Field → Type 0} 
             let A = Q.accepts form t (told s line) (fields_in s count new) (b ∙ ap (λ y. y ++ t) bytes_written) form_derived (omega (arith, room, fields_counted s count new)) in
             let l = told_said' z line' form (told s line) (fields_in s count new) form_derived A.1 in
             record {
-              end = A.0 ∙ ap At (sym y.1);
+              end = A.0 ∙ ap Ok (sym y.1);
               says_again = A.1;
               line_again = l;
               fields_again = A.2;
@@ -85,28 +79,28 @@ module _ {L K : Type 0} {Head Head' : List ℕ → L → List Field → Type 0} 
             let once = was_written W w in
             let f : plain (told z line') (fields_in z count' new') ≡ form = ap (λ y. plain y (fields_in z count' new')) back.line_again ∙ ap (plain (told s line)) back.fields_again in
             let m : length (plain (told z line') (fields_in z count' new')) ≡ n = ap length f ∙ sym once.1 in
-            let e = writes X v (omega (arith, m, h)) ∙ ap Written m in
+            let e = writes X v (omega (arith, m, h)) ∙ ap Ok m in
             let y = was_written X e in
             (e, ap (take n) y.3 ∙ take_at (plain (told z line') (fields_in z count' new')) (drop n out₂) n m ∙ f ∙ sym bytes_written)
 
 -- what a call said in places is what the writer finds there
-bytes_held : (z : List ℕ) (a : KnownPiece) {w : List ℕ} → Holds z a w → bytes_of z a ≡ w
-bytes_held z (pieces.Is a) h = h
-bytes_held z pieces.NotYet h = absurd h
+bytes_held : (z : List ℕ) (a : Option Piece) {w : List ℕ} → Holds z a w → bytes_of z a ≡ w
+bytes_held z (Some a) h = h
+bytes_held z None h = absurd h
 
-number_counted : (a : KnownNumber) {n : ℕ} → Counts a n → number_of a ≡ n
-number_counted (numbers.Is a) h = h
-number_counted numbers.NotYet h = absurd h
+number_counted : (a : Option ℕ) {n : ℕ} → Counts a n → number_of a ≡ n
+number_counted (Some a) h = h
+number_counted None h = absurd h
 
-held_lies : (Such : List ℕ → Type 0) (z : List ℕ) (a : KnownPiece) (w : List ℕ) → Holds z a w → Inside Such z a → Lies z a
-held_lies Such z (pieces.Is a) w h i = Lies.known a i.0
-held_lies Such z pieces.NotYet w h i = absurd h
+held_lies : (Such : List ℕ → Type 0) (z : List ℕ) (a : Option Piece) (w : List ℕ) → Holds z a w → Inside Such z a → Lies z a
+held_lies Such z (Some a) w h i = Lies.known a i.0
+held_lies Such z None w h i = absurd h
 
-counted_most : (m : ℕ) (a : KnownNumber) {n : ℕ} → Counts a n → n ≤ m → AtMost m a
-counted_most m (numbers.Is a) h l = AtMost.known a (omega (arith, h, l))
-counted_most m numbers.NotYet h l = absurd h
+counted_most : (m : ℕ) (a : Option ℕ) {n : ℕ} → Counts a n → n ≤ m → AtMost m a
+counted_most m (Some a) h l = AtMost.known a (omega (arith, h, l))
+counted_most m None h l = absurd h
 
-reached : {e : Passed} {q : ℕ} → e ≡ At q → Complete e
+reached : {e : Passed} {q : ℕ} → e ≡ Ok q → Complete e
 reached {q = q} h = subst Complete (sym h) (Complete.at q)
 
 version_is : (n : ℕ) (v : Version) → v.major ≡ 1 → n ≡ v.minor → one_point n ≡ v
@@ -129,7 +123,7 @@ module _ {r r' : Rules} (fixed : Fixed r) (takes : Takes r r') where
   request_derived w l fs h o = plain_request_under o fixed.known_versions (takes l.target) h
 
 -- no setting lets a value of a request go on over several lines
-module _ {r : Rules} (fixed : Fixed r) (off : r.multiline_headers ≡ false) {s old : List ℕ} {head : RequestHead} {new : List ℕ} (P : RequestPromise r s old head new) {q : ℕ} (e : head.end ≡ At q) where
+module _ {r : Rules} (fixed : Fixed r) (off : r.multiline_headers ≡ false) {s old : List ℕ} {head : Head RequestLine} {new : List ℕ} (P : RequestPromise r s old head new) {q : ℕ} (e : head.end ≡ Ok q) where
   -- every complete answer can be written
   pub request_writable : RequestLies s head new
   request_writable =
@@ -156,7 +150,7 @@ module _ {r : Rules} (fixed : Fixed r) (off : r.multiline_headers ≡ false) {s 
   pub request_plain_strict : IsRequestTarget strict (request_of s head.line).target → IsRequestHead strict (request_form s head new) (request_of s head.line) (fields_in s head.count new)
   request_plain_strict t = plain_request_strict (head_off off (P.complete q e).head) (request_plain default_takes) t
 
-module _ {r r' : Rules} (fixed : Fixed r) (fixed' : Fixed r') (off : r.multiline_headers ≡ false) (off' : r'.multiline_headers ≡ false) (takes : Takes r r') {s old : List ℕ} {head : RequestHead} {new : List ℕ} (P : RequestPromise r s old head new) {q : ℕ} (e : head.end ≡ At q) {Writable : Type 0} {out : List ℕ} {x : Writing} {out' : List ℕ} {n : ℕ} (W : PlainPromise s Writable (request_form s head new) out x out') (w : x ≡ Written n) (t : List ℕ) {z old' : List ℕ} {head' : RequestHead} {new' : List ℕ} (b : z ≡ take n out' ++ t) (Q : RequestPromise r' z old' head' new') (room : head.count ≤ length old' / 4) where
+module _ {r r' : Rules} (fixed : Fixed r) (fixed' : Fixed r') (off : r.multiline_headers ≡ false) (off' : r'.multiline_headers ≡ false) (takes : Takes r r') {s old : List ℕ} {head : Head RequestLine} {new : List ℕ} (P : RequestPromise r s old head new) {q : ℕ} (e : head.end ≡ Ok q) {Writable : Type 0} {out : List ℕ} {x : Writing} {out' : List ℕ} {n : ℕ} (W : PlainPromise s Writable (request_form s head new) out x out') (w : x ≡ Ok n) (t : List ℕ) {z old' : List ℕ} {head' : Head RequestLine} {new' : List ℕ} (b : z ≡ take n out' ++ t) (Q : RequestPromise r' z old' head' new') (room : head.count ≤ length old' / 4) where
   -- a call on the bytes written, with anything behind them, is complete at their end and gives the same fields back
   pub request_back : ReadBack RequestSays request_of s head.line head.count new n z head'.end head'.line head'.count new'
   request_back = back request_of plain_request (request_told fixed) (request_told fixed') (request_derived fixed takes) P e (head_off off (P.complete q e).head) W w t b Q room
@@ -180,7 +174,7 @@ response_derived fixed by_default w l fs h o = plain_response_derived o fixed.kn
 response_derived fixed by_own w l fs h o = plain_response_own o h
 
 -- a response has a plain form where its values stand on one line each, which they do unless a setting lets them go on over several
-module _ {r : Rules} (fixed : Fixed r) {s old : List ℕ} {head : ResponseHead} {new : List ℕ} (P : ResponsePromise r s old head new) {q : ℕ} (e : head.end ≡ At q) where
+module _ {r : Rules} (fixed : Fixed r) {s old : List ℕ} {head : Head StatusLine} {new : List ℕ} (P : ResponsePromise r s old head new) {q : ℕ} (e : head.end ≡ Ok q) where
   pub response_lines : r.multiline_headers ≡ false → OneLine (fields_in s head.count new)
   response_lines off = head_off off (P.complete q e).head
 
@@ -210,13 +204,13 @@ module _ {r : Rules} (fixed : Fixed r) {s old : List ℕ} {head : ResponseHead} 
     response_plain_strict c = plain_response_strict o (response_plain by_default) c
 
   -- and no other: where a value goes on over several lines, nothing is written, and no head without multi-line headers gives these fields
-  pub response_unwritten : (OneLine (fields_in s head.count new) → ⊥) → {form out : List ℕ} {x : Writing} {out' : List ℕ} → PlainPromise s (ResponseLies s head new) form out x out' → (x ≡ Unwritable) × (out' ≡ out)
+  pub response_unwritten : (OneLine (fields_in s head.count new) → ⊥) → {form out : List ℕ} {x : Writing} {out' : List ℕ} → PlainPromise s (ResponseLies s head new) form out x out' → (x ≡ Err Unwritable) × (out' ≡ out)
   response_unwritten n W = refused W (λ y. n y.lines)
 
   pub response_no_plain : (OneLine (fields_in s head.count new) → ⊥) → {r' : Rules} → r'.multiline_headers ≡ false → (w : List ℕ) (l : grammar.StatusLine) → IsResponseHead r' w l (fields_in s head.count new) → ⊥
   response_no_plain n off w l h = n (head_off off h)
 
-module _ {r r' : Rules} (fixed : Fixed r) (a : Again r r') {s old : List ℕ} {head : ResponseHead} {new : List ℕ} (P : ResponsePromise r s old head new) {q : ℕ} (e : head.end ≡ At q) {out : List ℕ} {x : Writing} {out' : List ℕ} {n : ℕ} (W : PlainPromise s (ResponseLies s head new) (response_form s head new) out x out') (w : x ≡ Written n) (t : List ℕ) {z old' : List ℕ} {head' : ResponseHead} {new' : List ℕ} (b : z ≡ take n out' ++ t) (Q : ResponsePromise r' z old' head' new') (room : head.count ≤ length old' / 4) where
+module _ {r r' : Rules} (fixed : Fixed r) (a : Again r r') {s old : List ℕ} {head : Head StatusLine} {new : List ℕ} (P : ResponsePromise r s old head new) {q : ℕ} (e : head.end ≡ Ok q) {out : List ℕ} {x : Writing} {out' : List ℕ} {n : ℕ} (W : PlainPromise s (ResponseLies s head new) (response_form s head new) out x out') (w : x ≡ Ok n) (t : List ℕ) {z old' : List ℕ} {head' : Head StatusLine} {new' : List ℕ} (b : z ≡ take n out' ++ t) (Q : ResponsePromise r' z old' head' new') (room : head.count ≤ length old' / 4) where
   -- a call on the bytes written, with anything behind them, is complete at their end and gives the same fields back
   pub response_back : ReadBack StatusSays status_of s head.line head.count new n z head'.end head'.line head'.count new'
   response_back = back status_of plain_response (status_told fixed) (status_told (again_fixed fixed a)) (response_derived fixed a) P e (was_written W w).0.lines W w t b Q room
@@ -225,7 +219,7 @@ module _ {r r' : Rules} (fixed : Fixed r) (a : Again r r') {s old : List ℕ} {h
   pub response_again : {out₂ : List ℕ} {r₂ : Writing} {out₂' : List ℕ} → PlainPromise z (ResponseLies z head' new') (response_form z head' new') out₂ r₂ out₂' → n ≤ length out₂ → WrittenAgain n out' r₂ out₂'
   response_again X h = again status_of plain_response (status_told fixed) (status_told (again_fixed fixed a)) (response_derived fixed a) P e (was_written W w).0.lines W w t b Q room X (response_writable (again_fixed fixed a) Q response_back.end (subst OneLine (sym response_back.fields_again) (was_written W w).0.lines)) h
 
-module _ {s old : List ℕ} {block : Block} {new : List ℕ} (P : BlockPromise s old block new) {q : ℕ} (e : block.end ≡ At q) where
+module _ {s old : List ℕ} {block : Block} {new : List ℕ} (P : BlockPromise s old block new) {q : ℕ} (e : block.end ≡ Ok q) where
   -- every complete answer can be written
   pub headers_writable : BlockLies s block new
   headers_writable = record { complete = reached e; headers = record { room = omega (arith, P.within.0, P.within.1); inside = P.inside.1 } }
@@ -237,7 +231,7 @@ module _ {s old : List ℕ} {block : Block} {new : List ℕ} (P : BlockPromise s
   pub headers_plain : (rules : Rules) → IsHeaderBlock rules true (block_form s block new) (fields_in s block.count new)
   headers_plain rules = let h = (P.complete q e).head in plain_block h (block_off refl h)
 
-module _ {s old : List ℕ} {block : Block} {new : List ℕ} (P : BlockPromise s old block new) {q : ℕ} (e : block.end ≡ At q) {Writable : Type 0} {out : List ℕ} {r : Writing} {out' : List ℕ} {n : ℕ} (W : PlainPromise s Writable (block_form s block new) out r out') (w : r ≡ Written n) (t : List ℕ) {z old' : List ℕ} {block' : Block} {new' : List ℕ} (b : z ≡ take n out' ++ t) (Q : BlockPromise z old' block' new') (room : block.count ≤ length old' / 4) where
+module _ {s old : List ℕ} {block : Block} {new : List ℕ} (P : BlockPromise s old block new) {q : ℕ} (e : block.end ≡ Ok q) {Writable : Type 0} {out : List ℕ} {r : Writing} {out' : List ℕ} {n : ℕ} (W : PlainPromise s Writable (block_form s block new) out r out') (w : r ≡ Ok n) (t : List ℕ) {z old' : List ℕ} {block' : Block} {new' : List ℕ} (b : z ≡ take n out' ++ t) (Q : BlockPromise z old' block' new') (room : block.count ≤ length old' / 4) where
   -- a call on the bytes written, with anything behind them, is complete at their end and gives the same fields back
   pub headers_back : ReadBack {L = Unit {0}} {K = Unit {0}} SaysNothing (λ z k. k) s tt block.count new n z block'.end tt block'.count new'
   headers_back = back (λ z k. k) (λ l fs. plain_fields fs) (λ z k w l fs h a. refl) (λ z k w l fs h a. refl) (λ w l fs. plain_block) P e (block_off refl (P.complete q e).head) W w t b Q room

@@ -1,6 +1,6 @@
 -- What was read of a row of heads stays read when more bytes arrive, and its error lies where that of its head does.
 -- Assumes nothing.
-use Rattle.std.specs.Prelude.{ℕ, ◌+◌, ◌≤◌, ◌<◌, ◌≡◌, refl, List, ◌∷◌, ◌++◌, length, take, drop}
+use Rattle.std.specs.Prelude.{ℕ, ◌+◌, ◌≤◌, ◌<◌, ◌≡◌, refl, List, ◌∷◌, ◌++◌, length, take, drop, Err}
 use Rattle.std.proofs.Common.{arith, sym, ap, subst, ◌∙◌, append_assoc, length-append, take_at}
 use Rattle.reader.specs.Tests.{never}
 use Rattle.reader.specs.Answer.{bad}
@@ -10,7 +10,7 @@ use Rattle.grammar.specs.Message.{IsRequestHead, IsResponseHead}
 use Rattle.lengths.specs.Lengths.{head_long}
 use Rattle.parts.specs.declared.Fault.{Fault}
 use Rattle.parts.specs.Answers.{fault}
-use Rattle.parts.specs.declared.Passed.TheVariants.{Bad}
+use Rattle.parts.specs.declared.Unread.TheVariants.{Bad}
 use Rattle.heads.specs.Head.{Heads, Known}
 use Rattle.heads.specs.Calls.{request, response}
 use Rattle.agreement.specs.Starts.{Fixed}
@@ -28,7 +28,7 @@ use Rattle.onereading.proofs.Rows.{beside, ends_count, fitting_behind, row_first
 record Wrong {L K : Type 0} (Head : List ℕ → L → List Field → Type 0) (read : ℕ → List ℕ → Heads K) (n at : ℕ) (rest : List ℕ) (count room : ℕ) (x : Fault) : Type 0 where
   y : Fault
   further : fault y.error (at + y.position) ≡ x
-  ends : Ends (read n rest) (Bad y)
+  ends : Ends (read n rest) (Err (Bad y))
   none_fits : (u w t : List ℕ) (l : L) (fs : List Field) → rest ++ u ≡ w ++ t → Head w l fs → length fs ≤ n → ⊥
   long : 1 ≤ length rest
   room_left : count < room

@@ -1,6 +1,6 @@
 -- What is told before the end of a head is true of every head that the bytes may still become: a call on all of it tells no less.
 -- Assumes nothing.
-use Rattle.std.specs.Prelude.{ℕ, zero, suc, ◌+◌, ◌*◌, ◌/◌, ◌≤◌, ◌<◌, ◌≡◌, refl, List, [], ◌∷◌, ◌++◌, Bool, true, false, ltb, length, take, drop, get_or}
+use Rattle.std.specs.Prelude.{ℕ, zero, suc, ◌+◌, ◌*◌, ◌/◌, ◌≤◌, ◌<◌, ◌≡◌, refl, List, [], ◌∷◌, ◌++◌, Bool, true, false, ltb, length, take, drop, get_or, Err, None, Ok, Option, Some}
 use Rattle.std.proofs.Common.{arith, sym, ap, subst, ◌∙◌, append_assoc, append-nil, length-drop, take-append-drop, get_or-take, get_or-drop, ltb-true, ltb-false}
 use Rattle.std.proofs.lemmas.List.{take-append-le, drop-append-le}
 use Rattle.reader.specs.Answer.{got, short, bad}
@@ -9,12 +9,9 @@ use Rattle.grammar.specs.Rows.{Many}
 use Rattle.grammar.specs.Fields.{Field}
 use Rattle.grammar.specs.Message.{IsRequestHead, IsResponseHead}
 use Rattle.grammar.specs.Message as grammar
-use Rattle.parts.specs.declared.Passed.{Passed}
-use Rattle.parts.specs.declared.Passed.TheVariants.{At, More, Bad}
-use Rattle.startline.specs.declared.KnownPiece.{KnownPiece}
-use Rattle.startline.specs.declared.KnownPiece.TheVariants as pieces
-use Rattle.startline.specs.declared.KnownNumber.{KnownNumber}
-use Rattle.startline.specs.declared.KnownNumber.TheVariants as numbers
+use Rattle.parts.specs.declared.Piece.{Piece}
+use Rattle.parts.specs.declared.Unread.TheVariants.{More, Bad}
+use Rattle.parts.specs.Answers.{Passed}
 use Rattle.requestline.specs.declared.RequestLine.{RequestLine}
 use Rattle.statusline.specs.declared.StatusLine.{StatusLine}
 use Rattle.blocks.specs.declared.Block.{Block}
@@ -66,9 +63,9 @@ record Virtual {K : Type 0} (a : Heads K) (old : List ℕ) : Type 0 where
   told : Told a end line count old new
 
 virtual : {K : Type 0} (a : Heads K) (old : List ℕ) → Virtual a old
-virtual (got k q) old = record { end = At q; line = k.0; count = length k.1; new = filled k.1 old; told = record { answer = refl; count_is = refl; slots = refl } }
-virtual (short k) old = record { end = More; line = k.0; count = length k.1; new = filled k.1 old; told = record { answer = refl; count_is = refl; slots = refl } }
-virtual (bad x) old = record { end = Bad x.0; line = x.1.0; count = length x.1.1; new = filled x.1.1 old; told = record { answer = refl; count_is = refl; slots = refl } }
+virtual (got k q) old = record { end = Ok q; line = k.0; count = length k.1; new = filled k.1 old; told = record { answer = refl; count_is = refl; slots = refl } }
+virtual (short k) old = record { end = Err More; line = k.0; count = length k.1; new = filled k.1 old; told = record { answer = refl; count_is = refl; slots = refl } }
+virtual (bad x) old = record { end = Err (Bad x.0); line = x.1.0; count = length x.1.1; new = filled x.1.1 old; told = record { answer = refl; count_is = refl; slots = refl } }
 
 module _ {L K : Type 0} {Head : List ℕ → L → List Field → Type 0} {Says : List ℕ → K → L → Type 0} {r : Rules} {In : List ℕ → K → Type 0} {Same : K → K → Type 0} (Agrees : List ℕ → K → L → Type 0)
     (agrees : (s u : List ℕ) (k k' : K) (l : L) → In s k → Same k k' → Says (s ++ u) k' l → Agrees s k l) where
@@ -87,13 +84,13 @@ module _ {L K : Type 0} {Head : List ℕ → L → List Field → Type 0} {Says 
         by false f = let A = Q.accepts w t l fs e h (ltb-false (length old / 4) (length fs) f) in shown fs l A.1 [] (append-nil (fields_in (s ++ u) count' new') ∙ A.2)
         by true f = let A = Q.too_many w t l fs e h (ltb-true (length old / 4) (length fs) f) in shown fs l A.2 (drop (length old / 4) fs) (ap (λ y. y ++ drop (length old / 4) fs) A.3 ∙ take-append-drop (length old / 4) fs)
 
-piece_agrees : (Such : List ℕ → Type 0) (s u : List ℕ) (a b : KnownPiece) (w : List ℕ) → Inside Such s a → SamePiece a b → Holds (s ++ u) b w → PieceAgrees s a w
-piece_agrees Such s u (pieces.Is a) b w i e h = sym (held_still s u a.offset a.length i.0) ∙ subst (λ y. Holds (s ++ u) y w) e h
-piece_agrees Such s u pieces.NotYet b w i e h = tt
+piece_agrees : (Such : List ℕ → Type 0) (s u : List ℕ) (a b : Option Piece) (w : List ℕ) → Inside Such s a → SamePiece a b → Holds (s ++ u) b w → PieceAgrees s a w
+piece_agrees Such s u (Some a) b w i e h = sym (held_still s u a.offset a.length i.0) ∙ subst (λ y. Holds (s ++ u) y w) e h
+piece_agrees Such s u None b w i e h = tt
 
-number_agrees : (a b : KnownNumber) (n : ℕ) → SameNumber a b → Counts b n → NumberAgrees a n
-number_agrees (numbers.Is a) b n e h = subst (λ y. Counts y n) e h
-number_agrees numbers.NotYet b n e h = tt
+number_agrees : (a b : Option ℕ) (n : ℕ) → SameNumber a b → Counts b n → NumberAgrees a n
+number_agrees (Some a) b n e h = subst (λ y. Counts y n) e h
+number_agrees None b n e h = tt
 
 module _ {r : Rules} (fixed : Fixed r) {s old : List ℕ} {end : Passed} {count : ℕ} {new : List ℕ} where
   pub request_so_far : {line : RequestLine} → Told (request r (length old / 4) s) end line count old new → SoFar (IsRequestHead r) RequestAgrees s line count new
@@ -120,9 +117,9 @@ module _ {r : Rules} (fixed : Fixed r) {s old : List ℕ} {end : Passed} {count 
 
 -- headers alone: a block that its reader answers
 virtual_block : (b : blocks.Blocks) (old : List ℕ) → (r : Block) × (new : List ℕ) × blocks.Told b r old new
-virtual_block (got hs q) old = (record { end = At q; count = length hs }, filled hs old, record { answer = refl; count = refl; slots = refl })
-virtual_block (short hs) old = (record { end = More; count = length hs }, filled hs old, record { answer = refl; count = refl; slots = refl })
-virtual_block (bad x) old = (record { end = Bad x.0; count = length x.1 }, filled x.1 old, record { answer = refl; count = refl; slots = refl })
+virtual_block (got hs q) old = (record { end = Ok q; count = length hs }, filled hs old, record { answer = refl; count = refl; slots = refl })
+virtual_block (short hs) old = (record { end = Err More; count = length hs }, filled hs old, record { answer = refl; count = refl; slots = refl })
+virtual_block (bad x) old = (record { end = Err (Bad x.0); count = length x.1 }, filled x.1 old, record { answer = refl; count = refl; slots = refl })
 
 pub headers_so_far : (s : List ℕ) {old : List ℕ} {r : Block} {new : List ℕ} → blocks.Told (block default (length old / 4) [] s 0) r old new → SoFar BlockAlone SaysNothing s tt r.count new
 headers_so_far s {old} T u =

@@ -1,6 +1,6 @@
 -- An answer never changes when more bytes arrive: what each call told on s it tells on s and anything behind it.
 -- Assumes nothing.
-use Rattle.std.specs.Prelude.{ℕ, ◌*◌, ◌≤◌, ◌≡◌, refl, List, [], ◌++◌, length, take, drop}
+use Rattle.std.specs.Prelude.{ℕ, ◌*◌, ◌≤◌, ◌≡◌, refl, List, [], ◌++◌, length, take, drop, Err, Ok}
 use Rattle.std.proofs.Common.{arith, sym, ap, subst, ◌∙◌, length-append}
 use Rattle.reader.specs.Tests.{never}
 use Rattle.reader.specs.Machine.{Step, run_at}
@@ -12,9 +12,9 @@ use Rattle.reader.specs.Later.{Later, same, waited}
 use Rattle.reader.proofs.Later.{later}
 use Rattle.rules.specs.Rules.{Rules, default}
 use Rattle.parts.specs.declared.Fault.{Fault}
-use Rattle.parts.specs.declared.Passed.{Passed}
-use Rattle.parts.specs.declared.Passed.TheVariants.{At, More, Bad}
+use Rattle.parts.specs.declared.Unread.TheVariants.{More, Bad}
 use Rattle.parts.specs.EmptyLines.{start}
+use Rattle.parts.specs.Answers.{Passed}
 use Rattle.fields.specs.declared.Header.{Header}
 use Rattle.blocks.specs.declared.Block.{Block}
 use Rattle.blocks.specs.Block.{block_step, block}
@@ -27,9 +27,7 @@ use Rattle.statusline.specs.StatusLine as statuses
 use Rattle.heads.specs.Head.{Heads, Known, head_step, head_known, over, headed, head_parts, given, Told}
 use Rattle.heads.specs.Head as heads
 use Rattle.heads.specs.Calls.{request, response}
-use Rattle.chunks.specs.declared.ChunkSize.{ChunkSize}
-use Rattle.chunks.specs.declared.ChunkSize.TheVariants as sizes
-use Rattle.chunks.specs.Chunk.{digits, chunk_step, chunk, size_of}
+use Rattle.chunks.specs.Chunk.{ChunkSize, digits, chunk_step, chunk, size_of}
 use Rattle.agreement.proofs.Exactly.{given_over, head_line}
 use Rattle.agreement.proofs.Kept.{told_line}
 use Rattle.agreement.specs.Calls.{alone}
@@ -47,23 +45,23 @@ module _ {K : Type 0} where
       (u.0, u.1, U.count_is ∙ sym T.count_is, same ∙ ap (λ y. take (y * 4) new ++ drop (y * 4) old') (sym T.count_is))
     where
       tells : (end end' : Passed) (line line' : K) (hs : List Header) → ◌≡◌ {A = Heads K} (tell end (line, hs)) (tell end' (line', hs)) → (end' ≡ end) × (line' ≡ line)
-      tells (At q) (At q') line line' hs e = let u : ◌≡◌ {A = Known K} (line, hs) (line', hs) = cc in (cc, sym (ap (λ y. y.0) u))
-      tells More More line line' hs e = let u : ◌≡◌ {A = Known K} (line, hs) (line', hs) = cc in (refl, sym (ap (λ y. y.0) u))
-      tells (Bad x) (Bad x') line line' hs e = let u : ◌≡◌ {A = Fault × Known K} (x, (line, hs)) (x', (line', hs)) = cc in (ap (λ y. Bad y.0) (sym u), sym (ap (λ y. y.1.0) u))
-      tells (At q) More line line' hs e = never cc
-      tells (At q) (Bad x) line line' hs e = never cc
-      tells More (At q) line line' hs e = never cc
-      tells More (Bad x) line line' hs e = never cc
-      tells (Bad x) (At q) line line' hs e = never cc
-      tells (Bad x) More line line' hs e = never cc
+      tells (Ok q) (Ok q') line line' hs e = let u : ◌≡◌ {A = Known K} (line, hs) (line', hs) = cc in (cc, sym (ap (λ y. y.0) u))
+      tells (Err More) (Err More) line line' hs e = let u : ◌≡◌ {A = Known K} (line, hs) (line', hs) = cc in (refl, sym (ap (λ y. y.0) u))
+      tells (Err (Bad x)) (Err (Bad x')) line line' hs e = let u : ◌≡◌ {A = Fault × Known K} (x, (line, hs)) (x', (line', hs)) = cc in (ap (λ y. Err (Bad y.0)) (sym u), sym (ap (λ y. y.1.0) u))
+      tells (Ok q) (Err More) line line' hs e = never cc
+      tells (Ok q) (Err (Bad x)) line line' hs e = never cc
+      tells (Err More) (Ok q) line line' hs e = never cc
+      tells (Err More) (Err (Bad x)) line line' hs e = never cc
+      tells (Err (Bad x)) (Ok q) line line' hs e = never cc
+      tells (Err (Bad x)) (Err More) line line' hs e = never cc
 
   -- how a call ended where the reader waited
-  pub told_more : (end : Passed) (k : Known K) (u : Known K) → ◌≡◌ {A = Heads K} (tell end k) (short u) → end ≡ More
-  told_more (At q) k u e = never cc
-  told_more More k u e = refl
-  told_more (Bad x) k u e = never cc
+  pub told_more : (end : Passed) (k : Known K) (u : Known K) → ◌≡◌ {A = Heads K} (tell end k) (short u) → end ≡ Err More
+  told_more (Ok q) k u e = never cc
+  told_more (Err More) k u e = refl
+  told_more (Err (Bad x)) k u e = never cc
 
-  decides : {a b : Heads K} {end end' : Passed} {line line' : K} {count count' : ℕ} {old old' new new' : List ℕ} → Later a b → Told a end line count old new → Told b end' line' count' old' new' → (end ≡ More → ⊥) → (end' ≡ end) × (line' ≡ line) × (count' ≡ count) × (new' ≡ take (count * 4) new ++ drop (count * 4) old')
+  decides : {a b : Heads K} {end end' : Passed} {line line' : K} {count count' : ℕ} {old old' new new' : List ℕ} → Later a b → Told a end line count old new → Told b end' line' count' old' new' → (end ≡ Err More → ⊥) → (end' ≡ end) × (line' ≡ line) × (count' ≡ count) × (new' ≡ take (count * 4) new ++ drop (count * 4) old')
   decides same T U n = told_same T U
   decides {end = end} {line = line} (waited {u = u}) T U n = absurd (n (told_more end (line, u.1) u T.answer))
 
@@ -123,22 +121,22 @@ headers_stays n s t T U =
 
 -- a chunk size line
 pub size_same : (r r' : ChunkSize) → size_of r ≡ size_of r' → r' ≡ r
-size_same (sizes.Complete q n) (sizes.Complete p m) e = cc
-size_same sizes.Incomplete sizes.Incomplete e = refl
-size_same (sizes.Invalid q) (sizes.Invalid p) e = cc
-size_same (sizes.Complete q n) sizes.Incomplete e = never cc
-size_same (sizes.Complete q n) (sizes.Invalid p) e = never cc
-size_same sizes.Incomplete (sizes.Complete p m) e = never cc
-size_same sizes.Incomplete (sizes.Invalid p) e = never cc
-size_same (sizes.Invalid q) (sizes.Complete p m) e = never cc
-size_same (sizes.Invalid q) sizes.Incomplete e = never cc
+size_same (Ok (n, q)) (Ok (m, p)) e = cc
+size_same (Err More) (Err More) e = refl
+size_same (Err (Bad q)) (Err (Bad p)) e = cc
+size_same (Ok a) (Err More) e = never cc
+size_same (Ok a) (Err (Bad p)) e = never cc
+size_same (Err More) (Ok b) e = never cc
+size_same (Err More) (Err (Bad p)) e = never cc
+size_same (Err (Bad q)) (Ok b) e = never cc
+size_same (Err (Bad q)) (Err More) e = never cc
 
-pub size_waits : (r : ChunkSize) {u : Unit {0}} → size_of r ≡ short u → r ≡ sizes.Incomplete
-size_waits (sizes.Complete q n) e = never cc
-size_waits sizes.Incomplete e = refl
-size_waits (sizes.Invalid p) e = never cc
+pub size_waits : (r : ChunkSize) {u : Unit {0}} → size_of r ≡ short u → r ≡ Err More
+size_waits (Ok a) e = never cc
+size_waits (Err More) e = refl
+size_waits (Err (Bad p)) e = never cc
 
-chunk_by : {a b : Answer (Unit {0}) ℕ ℕ} {r r' : ChunkSize} → Later a b → size_of r ≡ a → size_of r' ≡ b → (r ≡ sizes.Incomplete → ⊥) → r' ≡ r
+chunk_by : {a b : Answer (Unit {0}) ℕ ℕ} {r r' : ChunkSize} → Later a b → size_of r ≡ a → size_of r' ≡ b → (r ≡ Err More → ⊥) → r' ≡ r
 chunk_by {r = r} {r' = r'} same T U n = size_same r r' (T ∙ sym U)
 chunk_by {r = r} waited T U n = absurd (n (size_waits r T))
 

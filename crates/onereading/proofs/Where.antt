@@ -1,14 +1,14 @@
 -- An error says where it lies: two calls' answers beside each other.
 -- Assumes nothing.
-use Rattle.std.specs.Prelude.{ℕ, ◌+◌, ◌*◌, ◌/◌, ◌≡◌, refl, List, [], ◌++◌, length, take, drop}
+use Rattle.std.specs.Prelude.{ℕ, ◌+◌, ◌*◌, ◌/◌, ◌≡◌, refl, List, [], ◌++◌, length, take, drop, Err}
 use Rattle.std.proofs.Common.{sym, ap, subst, ◌∙◌, arith, length-append}
 use Rattle.reader.specs.Answer.{got, short, bad}
 use Rattle.reader.specs.Known.{known_of}
 use Rattle.rules.specs.Rules.{Rules, default}
 use Rattle.lengths.specs.Lengths.{ends_long, field_long}
 use Rattle.parts.specs.declared.Fault.{Fault}
-use Rattle.parts.specs.declared.Passed.{Passed}
-use Rattle.parts.specs.declared.Passed.TheVariants.{More, Bad}
+use Rattle.parts.specs.declared.Unread.TheVariants.{More, Bad}
+use Rattle.parts.specs.Answers.{Passed}
 use Rattle.fields.specs.declared.Header.{Header}
 use Rattle.blocks.specs.declared.Block.{Block}
 use Rattle.blocks.specs.Slots.{filled}
@@ -18,9 +18,7 @@ use Rattle.requestline.specs.declared.RequestLine.{RequestLine}
 use Rattle.statusline.specs.declared.StatusLine.{StatusLine}
 use Rattle.heads.specs.Head.{Heads, given, Told}
 use Rattle.heads.specs.Calls.{request, response}
-use Rattle.chunks.specs.declared.ChunkSize.{ChunkSize}
-use Rattle.chunks.specs.declared.ChunkSize.TheVariants as sizes
-use Rattle.chunks.specs.Chunk.{chunk, size_of}
+use Rattle.chunks.specs.Chunk.{ChunkSize, chunk, size_of}
 use Rattle.agreement.proofs.Kept.{told_got, told_line}
 use Rattle.agreement.specs.Promises.{Waits, FaultPromise}
 use Rattle.agreement.specs.Calls.{headers_of}
@@ -35,8 +33,8 @@ given_known (got k q) = refl
 given_known (short k) = refl
 given_known (bad x) = refl
 
-module _ {K : Type 0} {r : Rules} {n : ℕ} {read : List ℕ → Heads K} {s : List ℕ} {x : Fault} (F : FaultPromise r n read s (Bad x)) {line line' : K} {count count' : ℕ} {old old' new new' : List ℕ} {z : List ℕ} {end' : Passed} (T : Told (read s) (Bad x) line count old new) (U : Told (read z) end' line' count' old' new') where
-  waited : Waits (read z) → end' ≡ More
+module _ {K : Type 0} {r : Rules} {n : ℕ} {read : List ℕ → Heads K} {s : List ℕ} {x : Fault} (F : FaultPromise r n read s (Err (Bad x))) {line line' : K} {count count' : ℕ} {old old' new new' : List ℕ} {z : List ℕ} {end' : Passed} (T : Told (read s) (Err (Bad x)) line count old new) (U : Told (read z) end' line' count' old' new') where
+  waited : Waits (read z) → end' ≡ Err More
   waited w = told_more end' (line', given (read z)) w.0 (U.answer ∙ w.1)
 
   -- a call that knows what the first one told
@@ -67,20 +65,20 @@ module _ {K : Type 0} {r : Rules} {n : ℕ} {read : List ℕ → Heads K} {s : L
       }
 
 module _ (r : Rules) (s z : List ℕ) {x : Fault} {count count' : ℕ} {old old' new new' : List ℕ} {end' : Passed} where
-  pub request_where : {line line' : RequestLine} → Told (request r (length old / 4) s) (Bad x) line count old new → Told (request r (length old / 4) z) end' line' count' old' new' → SaysWhere r s x line count new z end' line' count' old' new'
+  pub request_where : {line line' : RequestLine} → Told (request r (length old / 4) s) (Err (Bad x)) line count old new → Told (request r (length old / 4) z) end' line' count' old' new' → SaysWhere r s x line count new z end' line' count' old' new'
   request_where T U = says_where (request_fault r T) T U
 
-  pub response_where : {line line' : StatusLine} → Told (response r (length old / 4) s) (Bad x) line count old new → Told (response r (length old / 4) z) end' line' count' old' new' → SaysWhere r s x line count new z end' line' count' old' new'
+  pub response_where : {line line' : StatusLine} → Told (response r (length old / 4) s) (Err (Bad x)) line count old new → Told (response r (length old / 4) z) end' line' count' old' new' → SaysWhere r s x line count new z end' line' count' old' new'
   response_where T U = says_where (response_fault r T) T U
 
-pub headers_where : (s z : List ℕ) {x : Fault} {b b' : Block} {old old' new new' : List ℕ} → b.end ≡ Bad x → blocks.Told (block default (length old / 4) [] s 0) b old new → blocks.Told (block default (length old / 4) [] z 0) b' old' new' → SaysWhere {K = Unit {0}} default s x tt b.count new z b'.end tt b'.count old' new'
+pub headers_where : (s z : List ℕ) {x : Fault} {b b' : Block} {old old' new new' : List ℕ} → b.end ≡ Err (Bad x) → blocks.Told (block default (length old / 4) [] s 0) b old new → blocks.Told (block default (length old / 4) [] z 0) b' old' new' → SaysWhere {K = Unit {0}} default s x tt b.count new z b'.end tt b'.count old' new'
 headers_where s z {x} {b} {old = old} {new = new} e T U =
     says_where {read = headers_of (length old / 4)} (subst (FaultPromise default (length old / 4) (headers_of (length old / 4)) s) e (headers_fault T)) (subst (λ y. Told (headers_of (length old / 4) s) y tt b.count old new) e (alone_told T)) (alone_told U)
 
-pub chunk_where : (s z : List ℕ) {p : ℕ} {r' : ChunkSize} → size_of (sizes.Invalid p) ≡ chunk default s → size_of r' ≡ chunk default z → SizeSaysWhere s p z r'
+pub chunk_where : (s z : List ℕ) {p : ℕ} {r' : ChunkSize} → size_of (Err (Bad p)) ≡ chunk default s → size_of r' ≡ chunk default z → SizeSaysWhere s p z r'
 chunk_where s z {p} {r'} T U =
     let A = (chunk_fault_promise T).placed p refl in
     record {
       before = λ k l e. size_waits r' (U ∙ ap (chunk default) e ∙ A.before k l);
-      there = λ u e. size_same (sizes.Invalid p) r' (sym (U ∙ ap (chunk default) e ∙ A.there u));
+      there = λ u e. size_same (Err (Bad p)) r' (sym (U ∙ ap (chunk default) e ∙ A.there u));
     }

@@ -1,6 +1,6 @@
 -- What is known of a start line stays known as bytes arrive.
 -- Assumes nothing.
-use Rattle.std.specs.Prelude.{ℕ, refl, List, ◌++◌}
+use Rattle.std.specs.Prelude.{ℕ, refl, List, ◌++◌, None, Option, Some}
 use Rattle.std.proofs.Common.{subst}
 use Rattle.reader.specs.Seq.{first}
 use Rattle.reader.specs.Chain.{nothing, reads}
@@ -16,31 +16,27 @@ use Rattle.words.specs.Word.{word_step}
 use Rattle.words.specs.Word as words
 use Rattle.versions.specs.Version.{name, version_step}
 use Rattle.spaces.specs.Space.{space_step, space, behind_code_step, behind_code}
-use Rattle.startline.specs.declared.KnownPiece.{KnownPiece}
-use Rattle.startline.specs.declared.KnownPiece.TheVariants as pieces
-use Rattle.startline.specs.declared.KnownNumber.{KnownNumber}
-use Rattle.startline.specs.declared.KnownNumber.TheVariants as numbers
 use Rattle.requestline.specs.declared.RequestLine.{RequestLine}
 use Rattle.requestline.specs.RequestLine as requests
 use Rattle.statusline.specs.declared.StatusLine.{StatusLine}
 use Rattle.statusline.specs.StatusLine as statuses
 use Rattle.onereading.specs.Statements.{SamePiece, SameNumber, SameRequest, SameStatus}
 
-piece_refl : (a : KnownPiece) → SamePiece a a
-piece_refl (pieces.Is a) = refl
-piece_refl pieces.NotYet = tt
+piece_refl : (a : Option Piece) → SamePiece a a
+piece_refl (Some a) = refl
+piece_refl None = tt
 
-number_refl : (a : KnownNumber) → SameNumber a a
-number_refl (numbers.Is a) = refl
-number_refl numbers.NotYet = tt
+number_refl : (a : Option ℕ) → SameNumber a a
+number_refl (Some a) = refl
+number_refl None = tt
 
-piece_trans : (a b c : KnownPiece) → SamePiece a b → SamePiece b c → SamePiece a c
-piece_trans (pieces.Is a) b c h i = subst (λ y. SamePiece y c) h i
-piece_trans pieces.NotYet b c h i = tt
+piece_trans : (a b c : Option Piece) → SamePiece a b → SamePiece b c → SamePiece a c
+piece_trans (Some a) b c h i = subst (λ y. SamePiece y c) h i
+piece_trans None b c h i = tt
 
-number_trans : (a b c : KnownNumber) → SameNumber a b → SameNumber b c → SameNumber a c
-number_trans (numbers.Is a) b c h i = subst (λ y. SameNumber y c) h i
-number_trans numbers.NotYet b c h i = tt
+number_trans : (a b c : Option ℕ) → SameNumber a b → SameNumber b c → SameNumber a c
+number_trans (Some a) b c h i = subst (λ y. SameNumber y c) h i
+number_trans None b c h i = tt
 
 request_refl : (k : RequestLine) → SameRequest k k
 request_refl k = record { method = piece_refl k.method; target = piece_refl k.target; version = number_refl k.version }

@@ -4,14 +4,15 @@
 use Rattle.std.specs.Prelude.{ℕ, List}
 use Rattle.rules.specs.Rules.{Rules, default}
 use Rattle.grammar.specs.Message.{IsRequestTarget, IsRequestHead, IsResponseHead}
-use Rattle.heads.specs.declared.RequestHead.{RequestHead}
-use Rattle.heads.specs.declared.ResponseHead.{ResponseHead}
+use Rattle.requestline.specs.declared.RequestLine.{RequestLine}
+use Rattle.statusline.specs.declared.StatusLine.{StatusLine}
+use Rattle.heads.specs.declared.Head.{Head}
 use Rattle.blocks.specs.declared.Block.{Block}
 use Rattle.agreement.specs.Known.{RequestSays, StatusSays, RequestInside, StatusInside}
 use Rattle.agreement.specs.Promises.{HeadPromise, BlockAlone, SaysNothing, LiesNowhere}
 
 -- requests: a call's promise
-abbrev pub RequestPromise : Rules → List ℕ → List ℕ → RequestHead → List ℕ → Type 0
+abbrev pub RequestPromise : Rules → List ℕ → List ℕ → Head RequestLine → List ℕ → Type 0
 RequestPromise r s old head new = HeadPromise r (IsRequestHead r) RequestSays (RequestInside r) s old head.end head.line head.count new
 
 -- the second reading takes the targets of the first: the default takes those of all rules, and any rules their own
@@ -19,7 +20,7 @@ abbrev pub Takes : Rules → Rules → Type 0
 Takes r r' = (t : List ℕ) → IsRequestTarget r t → IsRequestTarget r' t
 
 -- responses
-abbrev pub ResponsePromise : Rules → List ℕ → List ℕ → ResponseHead → List ℕ → Type 0
+abbrev pub ResponsePromise : Rules → List ℕ → List ℕ → Head StatusLine → List ℕ → Type 0
 ResponsePromise r s old head new = HeadPromise r (IsResponseHead r) StatusSays StatusInside s old head.end head.line head.count new
 
 -- the second reading is by default, or by the rules of the first

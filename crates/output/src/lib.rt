@@ -3,7 +3,8 @@
 
 ghost use Rattle.output.specs.Put.{Adds, WholeOrNot};
 
-// Puts a text at a position if it ends within `out`. Answers the position behind it, and usize::MAX where there is no such number.
+// Puts a text at a position if it ends within `out`. Answers the position behind it, and usize::MAX where there is no such number: no Option, since
+// `Adds` is written of that position, and what puts one text behind another adds up in any case.
 pub fn put(out: &mut [u8], at: usize, text: &[u8]) -> usize
     ensures adds { Adds text.now at out.old result out.new }
     ensures whole_or_not { WholeOrNot text.now at out.old out.new }

@@ -1,5 +1,6 @@
-// The page that a report is written on, and the lines and parts of the input that it shows.
+// The page that a report is written on, and the lines and bytes of the input that it shows.
 #![tactic(auto)]
 
 pub mod place;
+pub mod shown;
 pub mod text;

@@ -1,9 +1,10 @@
 // What a head is made of: what can be wrong, pieces and answers, line ends and empty lines.
 #![tactic(auto)]
 
-ghost use Rattle.std.specs.Prelude.{◌≡◌};
+ghost use Rattle.std.specs.Prelude.{◌≡◌, MatchResult};
 ghost use Rattle.rules.specs.Rules.{default};
-ghost use Rattle.parts.specs.Answers.{passed};
+ghost use Rattle.parts.specs.Answers.{passed, refusal};
+ghost use Rattle.parts.specs.Byte.{Is, IsPast};
 ghost use Rattle.parts.specs.LineEnd.{line_end};
 ghost use Rattle.parts.specs.EmptyLines.{empty_lines};
 
@@ -33,58 +34,56 @@ pub struct Piece {
     pub length: usize,
 }
 
-// What reading a part that has no value comes to: the position behind it; the input ends within it; a byte of it is wrong.
+// Why a part was not read: the input ends within it; or a byte of it is wrong.
 #[derive(Clone, Copy)]
-pub enum Passed {
-    At(usize),
+pub enum Unread<F = Fault> {
     More,
-    Bad(Fault),
+    Bad(F),
 }
 
-// The same of a part that is a piece.
-#[derive(Clone, Copy)]
-pub enum Found {
-    At(Piece, usize),
-    More,
-    Bad(Fault),
+impl Unread {
+    // That the byte at a position is wrong.
+    pub fn bad(error: Error, position: usize) -> Unread
+        ensures { result ≡ refusal error position }
+    {
+        Unread::Bad(Fault { error, position })
+    }
 }
 
-// The same of a part that is a number.
-#[derive(Clone, Copy)]
-pub enum Number {
-    At(usize, usize),
-    More,
-    Bad(Fault),
+// What reading a part that has no value comes to: the position behind it.
+pub type Passed = Result<usize, Unread>;
+
+// What reading a part that has a value comes to: the value, and the position behind it.
+pub type Read<T> = Result<(T, usize), Unread>;
+
+// The byte at a position. Here and above the input and a position in it stay two parameters: the definitions read a list from a position, and
+// a cursor that holds both would be no plainer.
+pub fn byte<F>(s: &[u8], at: usize) -> Result<u8, Unread<F>>
+    ensures { MatchResult result (Is s.now at) (IsPast s.now at) }
+{
+    if at < s.len() {
+        Ok(s[at])
+    } else {
+        Err(Unread::More)
+    }
 }
 
 // CR LF or LF. What stands there instead is the error of the place.
 pub fn line_end(s: &[u8], at: usize, error: Error) -> Passed
     ensures { passed result ≡ line_end default error s.now at }
 {
-    if s.len() <= at {
-        return Passed::More;
-    }
-    let b = s[at];
+    let b = byte(s, at)?;
     if b == 10 {
-        return Passed::At(at + 1);
+        return Ok(at + 1);
     }
     if b != 13 {
-        return Passed::Bad(Fault {
-            error,
-            position: at,
-        });
+        return Err(Unread::bad(error, at));
     }
     let next = at + 1;
-    if s.len() <= next {
-        return Passed::More;
-    }
-    if s[next] == 10 {
-        Passed::At(next + 1)
+    if byte(s, next)? == 10 {
+        Ok(next + 1)
     } else {
-        Passed::Bad(Fault {
-            error,
-            position: next,
-        })
+        Err(Unread::bad(error, next))
     }
 }
 
@@ -93,26 +92,20 @@ pub fn empty_lines(s: &[u8], at: usize) -> Passed
     ensures { passed result ≡ empty_lines default s.now at }
 {
     let mut i = at;
-    while i < s.len() {
-        let b = s[i];
+    // an empty line is one byte or two, so no `for` goes through them
+    loop {
+        let b = byte(s, i)?;
         if b == 10 {
             i += 1;
             continue;
         }
         if b != 13 {
-            return Passed::At(i);
+            return Ok(i);
         }
         let next = i + 1;
-        if s.len() <= next {
-            return Passed::More;
-        }
-        if s[next] != 10 {
-            return Passed::Bad(Fault {
-                error: Error::NewLine,
-                position: next,
-            });
+        if byte(s, next)? != 10 {
+            return Err(Unread::bad(Error::NewLine, next));
         }
         i = next + 1;
     }
-    Passed::More
 }

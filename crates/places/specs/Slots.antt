@@ -3,6 +3,7 @@
 use Rattle.std.specs.Prelude.{ℕ, zero, suc, ◌+◌, ◌*◌, ◌≤◌, ◌<◌, ◌≡◌, refl, List, ◌∷◌, take, drop, get_or}
 use Rattle.std.proofs.Common.{arith, sym, ap, subst, ◌∙◌, get_or-drop, drop-drop}
 use Rattle.grammar.specs.Fields.{Field}
+use Rattle.fields.specs.declared.Header.{Header}
 use Rattle.agreement.specs.Known.{fields_in, SlotsInside}
 
 -- of count headers there is one from k on
@@ -14,7 +15,11 @@ one_more (suc n) e h = (n, refl)
 abbrev pub field_at : List ℕ → List ℕ → ℕ → Field
 field_at s slots i = record { name = take (get_or slots (i + 1) 0) (drop (get_or slots i 0) s); value = take (get_or slots (i + 3) 0) (drop (get_or slots (i + 2) 0) s) }
 
--- its places end within the first e bytes
+-- its places
+abbrev pub header_at : List ℕ → ℕ → Header
+header_at slots i = record { name = record { offset = get_or slots i 0; length = get_or slots (i + 1) 0 }; value = record { offset = get_or slots (i + 2) 0; length = get_or slots (i + 3) 0 } }
+
+-- they end within the first e bytes
 pub record SlotLies (e : ℕ) (slots : List ℕ) (i : ℕ) : Type 0 where
   pub name : get_or slots i 0 + get_or slots (i + 1) 0 ≤ e
   pub value : get_or slots (i + 2) 0 + get_or slots (i + 3) 0 ≤ e

@@ -1,72 +1,72 @@
 // Whether what was read is complete and lies in the input, and of a response, whose values may go on over several lines, that none does.
-#![tactic(auto)]
+#![tactic(auto, using(crate::specs::Checks::checks, crate::specs::Lines::lines))]
 
-ghost use Rattle.std.specs.Prelude.{◌+◌, ◌≤◌, length, take, drop};
+ghost use Rattle.std.specs.Prelude.{ℕ, List, ◌≡◌, ◌+◌, ◌*◌, ◌≤◌, length, take, drop};
 ghost use Rattle.plain.specs.Plain.{one_line, OneLine};
 ghost use Rattle.agreement.specs.Known.{fields_in};
+ghost use Rattle.agreement.specs.Places.{held};
 ghost use Rattle.places.specs.Checks.{Decides, Both};
-ghost use Rattle.places.specs.Slots.{SlotLies};
+ghost use Rattle.places.specs.Slots.{header_at, SlotLies};
 ghost use Rattle.places.specs.Lies.{Complete, Lies, AtMost, SlotsLie, RequestLies, ResponseLies, BlockLies};
 
 use blocks::Block;
-use heads::{RequestHead, ResponseHead};
-use parts::Passed;
-use startline::{KnownNumber, KnownPiece};
+use fields::Header;
+use heads::Head;
+use parts::{Passed, Piece};
+use requestline::RequestLine;
+use statusline::StatusLine;
 
 fn complete(end: Passed) -> bool
     ensures { Decides (Complete end) result }
 {
-    match end {
-        Passed::At(_) => true,
-        Passed::More => false,
-        Passed::Bad(_) => false,
-    }
+    end.is_ok()
 }
 
-fn within(s: &[u8], offset: usize, size: usize) -> bool
-    ensures { Decides (offset + size ≤ length s.now) result }
+fn within(s: &[u8], p: Piece) -> bool
+    ensures { Decides (p.offset + p.length ≤ length s.now) result }
 {
-    if s.len() < offset {
-        return false;
-    }
-    if s.len() - offset < size {
-        return false;
-    }
-    true
+    p.offset <= s.len() && p.length <= s.len() - p.offset
 }
 
-fn piece(s: &[u8], known: KnownPiece) -> bool
+fn piece(s: &[u8], known: Option<Piece>) -> bool
     ensures { Decides (Lies s.now known) result }
 {
-    match known {
-        KnownPiece::Is(p) => within(s, p.offset, p.length),
-        KnownPiece::NotYet => false,
-    }
+    let Some(p) = known else { return false };
+    within(s, p)
 }
 
-fn number(most: usize, known: KnownNumber) -> bool
+fn number(most: usize, known: Option<usize>) -> bool
     ensures { Decides (AtMost most known) result }
 {
-    match known {
-        KnownNumber::Is(n) => {
-            if most < n {
-                return false;
-            }
-            true
-        }
-        KnownNumber::NotYet => false,
+    let Some(n) = known else { return false };
+    n <= most
+}
+
+// The header at an index, of which the slots hold four numbers.
+pub fn header(slots: &[usize], index: usize) -> Header
+    requires { index * 4 + 4 ≤ length slots.now }
+    ensures { result ≡ header_at slots.now (index * 4) }
+{
+    let at = index * 4;
+    Header {
+        name: Piece {
+            offset: slots[at],
+            length: slots[at + 1],
+        },
+        value: Piece {
+            offset: slots[at + 2],
+            length: slots[at + 3],
+        },
     }
 }
 
-// The name and the value of one header.
-fn slot(s: &[u8], slots: &[usize], i: usize) -> bool
-    requires { i + 4 ≤ length slots.now }
-    ensures { Decides (SlotLies (length s.now) slots.now i) result }
+// The name and the value of the header at an index.
+fn slot(s: &[u8], slots: &[usize], index: usize) -> bool
+    requires { index * 4 + 4 ≤ length slots.now }
+    ensures { Decides (SlotLies (length s.now) slots.now (index * 4)) result }
 {
-    if !within(s, slots[i], slots[i + 1]) {
-        return false;
-    }
-    within(s, slots[i + 2], slots[i + 3])
+    let header = header(slots, index);
+    within(s, header.name) && within(s, header.value)
 }
 
 // The first `count` headers.
@@ -76,29 +76,20 @@ fn slots(s: &[u8], slots: &[usize], count: usize) -> bool
     if slots.len() / 4 < count {
         return false;
     }
-    let mut k = 0;
-    while k < count {
-        if !slot(s, slots, k * 4) {
+    for index in 0..count {
+        if !slot(s, slots, index) {
             return false;
         }
-        k += 1;
     }
     true
 }
 
 // Whether no byte of a value ends a line.
-fn value_on_one_line(s: &[u8], offset: usize, size: usize) -> bool
-    requires { offset + size ≤ length s.now }
-    ensures { Decides (one_line (take size (drop offset s.now))) result }
+fn value_on_one_line(s: &[u8], value: Piece) -> bool
+    requires { value.offset + value.length ≤ length s.now }
+    ensures { Decides (one_line (held s.now value)) result }
 {
-    let mut k = 0;
-    while k < size {
-        if s[offset + k] == 10 {
-            return false;
-        }
-        k += 1;
-    }
-    true
+    !s[value.offset..value.offset + value.length].contains(&b'\n')
 }
 
 // Whether the values of the first `count` headers stand on one line each.
@@ -106,13 +97,10 @@ fn one_line(s: &[u8], slots: &[usize], count: usize) -> bool
     requires { SlotsLie s.now count slots.now }
     ensures { Decides (OneLine (fields_in s.now count slots.now)) result }
 {
-    let mut k = 0;
-    while k < count {
-        let i = k * 4;
-        if !value_on_one_line(s, slots[i + 2], slots[i + 3]) {
+    for index in 0..count {
+        if !value_on_one_line(s, header(slots, index).value) {
             return false;
         }
-        k += 1;
     }
     true
 }
@@ -121,64 +109,48 @@ fn one_line(s: &[u8], slots: &[usize], count: usize) -> bool
 fn slots_on_one_line(s: &[u8], all: &[usize], count: usize) -> bool
     ensures { Decides (Both (SlotsLie s.now count all.now) (OneLine (fields_in s.now count all.now))) result }
 {
-    if !slots(s, all, count) {
-        return false;
-    }
-    one_line(s, all, count)
+    slots(s, all, count) && one_line(s, all, count)
 }
 
-pub fn request(s: &[u8], head: RequestHead, all: &[usize]) -> bool
-    ensures { Decides (RequestLies s.now head all.now) result }
-{
-    let end = head.end;
-    let line = head.line;
-    if !complete(end) {
-        return false;
-    }
-    let method = line.method;
-    if !piece(s, method) {
-        return false;
-    }
-    let target = line.target;
-    if !piece(s, target) {
-        return false;
-    }
-    let version = line.version;
-    if !number(9, version) {
-        return false;
-    }
-    slots(s, all, head.count)
+// What was read, and what has to hold of it so that its plain form can be written.
+pub trait Writable: Copy {
+    // by the input and the slots
+    ghost lies: { List ℕ → Self → List ℕ → Type 0 };
+
+    fn lies(self, s: &[u8], all: &[usize]) -> bool
+        ensures { Decides (lies s.now self all.now) result };
 }
 
-pub fn response(s: &[u8], head: ResponseHead, all: &[usize]) -> bool
-    ensures { Decides (ResponseLies s.now head all.now) result }
-{
-    let end = head.end;
-    let line = head.line;
-    if !complete(end) {
-        return false;
+impl Writable for Head<RequestLine> {
+    ghost lies = { RequestLies };
+
+    fn lies(self, s: &[u8], all: &[usize]) -> bool {
+        let line = self.line;
+        complete(self.end)
+            && piece(s, line.method)
+            && piece(s, line.target)
+            && number(9, line.version)
+            && slots(s, all, self.count)
     }
-    let version = line.version;
-    if !number(9, version) {
-        return false;
-    }
-    let code = line.code;
-    if !number(999, code) {
-        return false;
-    }
-    let reason = line.reason;
-    if !piece(s, reason) {
-        return false;
-    }
-    slots_on_one_line(s, all, head.count)
 }
 
-pub fn block(s: &[u8], block: Block, all: &[usize]) -> bool
-    ensures { Decides (BlockLies s.now block all.now) result }
-{
-    let end = block.end;
-    if !complete(end) {
-        return false;
+impl Writable for Head<StatusLine> {
+    ghost lies = { ResponseLies };
+
+    fn lies(self, s: &[u8], all: &[usize]) -> bool {
+        let line = self.line;
+        complete(self.end)
+            && number(9, line.version)
+            && number(999, line.code)
+            && piece(s, line.reason)
+            && slots_on_one_line(s, all, self.count)
     }
-    slots(s, all, block.count)
+}
+
+impl Writable for Block {
+    ghost lies = { BlockLies };
+
+    fn lies(self, s: &[u8], all: &[usize]) -> bool {
+        complete(self.end) && slots(s, all, self.count)
+    }
 }

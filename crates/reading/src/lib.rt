@@ -3,11 +3,12 @@
 
 pub mod decided;
 
+use blocks::Block;
 use chunks::ChunkSize;
-use parts::Passed;
+use heads::Head;
+use parts::{Fault, Unread};
 use requestline::RequestLine;
 use rules::Settings;
-use startline::KnownNumber;
 use statusline::StatusLine;
 use wording::{Kind, Wrong};
 
@@ -18,21 +19,62 @@ pub const NUMBERS: usize = MOST_HEADERS * 4;
 
 pub type Slots = [usize; NUMBERS];
 
-// The position behind what was read; or more is wanted; or what is wrong, and the position of the byte that decided it.
+// What is given to be read: an input, as which kind, with which settings.
 #[derive(Clone, Copy)]
-pub enum Answer {
-    Complete(usize),
-    Incomplete,
-    Wrong(Wrong, usize),
+pub struct Given<'a> {
+    pub kind: Kind,
+    pub bytes: &'a [u8],
+    pub settings: Settings,
 }
+
+// What is wrong, and the position of the byte that decided it.
+#[derive(Clone, Copy)]
+pub struct Mistake {
+    pub wrong: Wrong,
+    pub position: usize,
+}
+
+impl From<Fault> for Mistake {
+    fn from(fault: Fault) -> Self {
+        Mistake {
+            wrong: Wrong::Head(fault.error),
+            position: fault.position,
+        }
+    }
+}
+
+// Of a wrong size only the position is told.
+impl From<usize> for Mistake {
+    fn from(position: usize) -> Self {
+        Mistake {
+            wrong: Wrong::Size,
+            position,
+        }
+    }
+}
+
+// The position behind what was read; or more is wanted; or what is wrong.
+pub type Answer = Result<usize, Unread<Mistake>>;
 
 // What the start line tells, as far as it is known.
 #[derive(Clone, Copy)]
 pub enum First {
     Request(RequestLine),
     Status(StatusLine),
-    Size(KnownNumber),
+    Size(Option<usize>),
     Nothing,
+}
+
+impl From<RequestLine> for First {
+    fn from(line: RequestLine) -> Self {
+        First::Request(line)
+    }
+}
+
+impl From<StatusLine> for First {
+    fn from(line: StatusLine) -> Self {
+        First::Status(line)
+    }
 }
 
 #[derive(Clone, Copy)]
@@ -42,75 +84,47 @@ pub struct Reading {
     pub count: usize,
 }
 
-pub fn read(kind: Kind, s: &[u8], slots: &mut Slots, settings: Settings) -> Reading {
+pub fn read(given: Given, slots: &mut Slots) -> Reading {
+    let Given {
+        kind,
+        bytes,
+        settings,
+    } = given;
     match kind {
-        Kind::Request => request(s, slots, settings),
-        Kind::Response => response(s, slots, settings),
-        Kind::Headers => headers(s, slots),
-        Kind::Chunk => chunk(s),
+        Kind::Request => told(calls::request(bytes, slots, settings)),
+        Kind::Response => told(calls::response(bytes, slots, settings)),
+        Kind::Headers => headers(calls::headers(bytes, slots)),
+        Kind::Chunk => chunk(calls::chunk_size(bytes)),
     }
 }
 
-fn request(s: &[u8], slots: &mut Slots, settings: Settings) -> Reading {
-    let head = calls::request(s, slots, settings);
-    let end = head.end;
-    let line = head.line;
+fn told<L: Into<First>>(head: Head<L>) -> Reading {
     Reading {
-        answer: ended(end),
-        first: First::Request(line),
+        answer: answer(head.end),
+        first: head.line.into(),
         count: head.count,
     }
 }
 
-fn response(s: &[u8], slots: &mut Slots, settings: Settings) -> Reading {
-    let head = calls::response(s, slots, settings);
-    let end = head.end;
-    let line = head.line;
+fn headers(block: Block) -> Reading {
     Reading {
-        answer: ended(end),
-        first: First::Status(line),
-        count: head.count,
-    }
-}
-
-fn headers(s: &[u8], slots: &mut Slots) -> Reading {
-    let block = calls::headers(s, slots);
-    let end = block.end;
-    Reading {
-        answer: ended(end),
+        answer: answer(block.end),
         first: First::Nothing,
         count: block.count,
     }
 }
 
-fn ended(end: Passed) -> Answer {
-    match end {
-        Passed::At(next) => Answer::Complete(next),
-        Passed::More => Answer::Incomplete,
-        Passed::Bad(fault) => {
-            let error = fault.error;
-            Answer::Wrong(Wrong::Head(error), fault.position)
-        }
+fn chunk(found: ChunkSize) -> Reading {
+    Reading {
+        answer: answer(found.map(|(_, end)| end)),
+        first: First::Size(found.ok().map(|(size, _)| size as usize)),
+        count: 0,
     }
 }
 
-fn chunk(s: &[u8]) -> Reading {
-    let found = calls::chunk_size(s);
-    match found {
-        ChunkSize::Complete(end, size) => Reading {
-            answer: Answer::Complete(end),
-            first: First::Size(KnownNumber::Is(size as usize)),
-            count: 0,
-        },
-        ChunkSize::Incomplete => Reading {
-            answer: Answer::Incomplete,
-            first: First::Size(KnownNumber::NotYet),
-            count: 0,
-        },
-        ChunkSize::Invalid(position) => Reading {
-            answer: Answer::Wrong(Wrong::Size, position),
-            first: First::Size(KnownNumber::NotYet),
-            count: 0,
-        },
-    }
+fn answer<F: Into<Mistake>>(end: Result<usize, Unread<F>>) -> Answer {
+    end.map_err(|unread| match unread {
+        Unread::More => Unread::More,
+        Unread::Bad(fault) => Unread::Bad(fault.into()),
+    })
 }

@@ -1,90 +1,85 @@
 // Reading a row of recorded answers: numbers, and bytes in hexadecimal, with a space behind each.
-ghost use Rattle.std.specs.Prelude.{◌≡◌, ◌<◌, ◌≤◌, length};
+ghost use Rattle.std.specs.Prelude.{◌<◌};
+
+use octets::{Class, Digit};
 
 // Ten times a number below this fits 64 bits.
 const TEN_TIMES_FITS: u64 = 1844674407370955162;
 
-// A number of a row, and the position behind it and the space that follows it.
+// A row, as far as it is not read yet.
 #[derive(Drop)]
-pub struct Number {
-    pub value: u64,
-    pub next: usize,
+pub struct Row<'a> {
+    rest: &'a [u8],
 }
 
-// A decimal number. Digits beyond 64 bits are dropped: no row has them.
-pub fn read_number(s: &[u8], at: usize) -> Number {
-    let mut i = at;
-    let mut value: u64 = 0;
-    while i < s.len() {
-        let b = s[i];
-        if !octets::is_digit(b) {
-            return Number { value, next: i + 1 };
-        }
-        if value < TEN_TIMES_FITS {
-            value = (value * 10).wrapping_add(wide(b));
-        }
-        i += 1;
+impl<'a> Row<'a> {
+    pub fn new(bytes: &'a [u8]) -> Row<'a> {
+        Row { rest: bytes }
     }
-    Number { value, next: i }
-}
 
-// What a decimal digit is worth.
-fn wide(b: u8) -> u64 {
-    if b < 48 {
-        return 0;
+    // The next byte, but for a space, which ends what is read.
+    fn byte(&mut self) -> Option<u8> {
+        let (first, rest) = self.rest.split_first()?;
+        self.rest = rest;
+        if *first == b' ' { None } else { Some(*first) }
     }
-    (b - 48) as u64
+
+    // A decimal number, and the byte behind it. Digits beyond 64 bits are dropped: no row has them.
+    pub fn number(&mut self) -> u64 {
+        let count = self
+            .rest
+            .iter()
+            .position(|b| !Digit::holds(*b))
+            .unwrap_or(self.rest.len());
+        let (digits, rest) = self.rest.split_at(count);
+        self.rest = rest;
+        self.byte();
+        digits.iter().fold(0, |value, digit| {
+            if value < TEN_TIMES_FITS {
+                (value * 10).wrapping_add(u64::from(digit.wrapping_sub(b'0')))
+            } else {
+                value
+            }
+        })
+    }
+
+    // Whether the next numbers are these.
+    pub fn has(&mut self, numbers: &[usize]) -> bool {
+        for number in numbers {
+            if self.number() != *number as u64 {
+                return false;
+            }
+        }
+        true
+    }
+
+    // Two hexadecimal digits.
+    fn pair(&mut self) -> Option<u8> {
+        let high = self.byte()?;
+        let low = self.byte()?;
+        Some(worth(high) * 16 + worth(low))
+    }
+
+    // The bytes whose pairs of hexadecimal digits stand up to a space. A row's empty input is a hyphen, which is no pair.
+    pub fn input<'b>(&mut self, room: &'b mut [u8]) -> &'b [u8] {
+        for (count, byte) in room.iter_mut().enumerate() {
+            match self.pair() {
+                Some(b) => *byte = b,
+                None => return &room[..count],
+            }
+        }
+        self.byte();
+        room
+    }
 }
 
-// What a hexadecimal digit in lower case is worth.
+// What a hexadecimal digit in lower case is worth; `to_digit` takes capitals too, which are worth nothing here.
 fn worth(b: u8) -> u8
     ensures { result < 16 }
 {
-    if b < 48 {
-        return 0;
+    match b {
+        b'0'..=b'9' => b - b'0',
+        b'a'.. => (b - b'a' + 10) % 16,
+        _ => 0,
     }
-    if b < 58 {
-        return b - 48;
-    }
-    if b < 97 {
-        return 0;
-    }
-    (b - 87) % 16
-}
-
-// The bytes of a row's input: how many there are, and the position behind them and the space that follows.
-#[derive(Drop)]
-pub struct Bytes {
-    pub count: usize,
-    pub next: usize,
-}
-
-// Pairs of hexadecimal digits up to a space; a row's empty input is a hyphen, which is no pair.
-pub fn read_input(s: &[u8], at: usize, input: &mut [u8]) -> Bytes
-    ensures { (result.count ≤ length input.old) × (length input.new ≡ length input.old) }
-{
-    let mut i = at;
-    let mut count = 0;
-    while i < s.len() {
-        if s[i] == 32 {
-            return Bytes { count, next: i + 1 };
-        }
-        let low = i + 1;
-        if s.len() <= low {
-            return Bytes { count, next: low };
-        }
-        if input.len() <= count {
-            return Bytes { count, next: low };
-        }
-        if s[low] == 32 {
-            return Bytes {
-                count,
-                next: low + 1,
-            };
-        }
-        input[count] = worth(s[i]) * 16 + worth(s[low]);
-        count += 1;
-        i = low + 1;
-    }
-    Bytes { count, next: i }
 }

@@ -4,151 +4,131 @@
 mod folded;
 mod rows;
 
+use caret::Pointed;
 use expected::Expected;
-use page::place;
-use page::text::{Page, fill, put};
+use page::place::Place;
+use page::text::Page;
+use parts::{Piece, Unread};
 use reading::decided::expected;
-use reading::{Answer, NUMBERS, Reading};
-use rules::Settings;
-use wording::{Kind, Wrong};
+use reading::{Answer, Given, Mistake, NUMBERS, Reading};
+use rows::Rows;
+use std::fmt;
+use std::fmt::Write;
+use wording::Kind;
+use wording::advice::advice;
 
-// Answers how long the report is, or a number above the page's length where it has no room.
-pub fn report(page: &mut Page, kind: Kind, raw: bool, s: &[u8], settings: Settings) -> usize {
+// Whom a report is for.
+#[derive(Clone, Copy)]
+pub enum Audience {
+    Person,
+    Script,
+}
+
+// A page that has no room for the report is an error, here and in what is called.
+pub fn report(page: &mut Page, audience: Audience, given: Given) -> fmt::Result {
     let mut slots = [0usize; NUMBERS];
-    let reading = reading::read(kind, s, &mut slots, settings);
-    let first = reading.first;
-    let next = if raw {
-        for_script(page, reading, s)
-    } else {
-        for_person(page, kind, reading, s, settings)
+    let reading = reading::read(given, &mut slots);
+    match audience {
+        Audience::Person => for_person(page, given, reading)?,
+        Audience::Script => for_script(page, reading.answer, given.bytes)?,
+    }
+    let mut rows = Rows {
+        page,
+        audience,
+        bytes: given.bytes,
     };
-    let next = rows::first_line(page, next, raw, s, first);
-    match kind {
-        Kind::Chunk => next,
-        _ => rows::headers(page, next, raw, s, &slots, reading.count),
+    rows.first_line(reading.first)?;
+    match given.kind {
+        Kind::Chunk => Ok(()),
+        _ => rows.headers(&slots, reading.count),
     }
 }
 
 // The report to a person on an input that has no plain form: where it is complete, on the value that keeps it from having one.
-pub fn no_plain_form(page: &mut Page, kind: Kind, s: &[u8], settings: Settings) -> usize {
+pub fn no_plain_form(page: &mut Page, given: Given) -> fmt::Result {
     let mut slots = [0usize; NUMBERS];
-    let reading = reading::read(kind, s, &mut slots, settings);
-    let answer = reading.answer;
-    match answer {
-        Answer::Complete(_) => folded::folded(page, s, &slots),
-        _ => report(page, kind, false, s, settings),
+    let reading = reading::read(given, &mut slots);
+    match reading.answer {
+        Ok(_) => folded::folded(page, given.bytes, &slots),
+        _ => report(page, Audience::Person, given),
     }
 }
 
 // The answer, and where the input is complete or where it is not.
-fn for_script(page: &mut Page, reading: Reading, s: &[u8]) -> usize {
-    let answer = reading.answer;
+fn for_script(page: &mut Page, answer: Answer, s: &[u8]) -> fmt::Result {
     match answer {
-        Answer::Complete(end) => fill(page, 0, b"answer\tcomplete\nend\t#\n", end, 0),
-        Answer::Incomplete => {
-            let next = put(page, 0, b"answer\tincomplete\n");
-            stop_rows(page, next, s, s.len())
+        Ok(end) => write!(page, "answer\tcomplete\nend\t{end}\n"),
+        Err(Unread::More) => {
+            writeln!(page, "answer\tincomplete")?;
+            stop_rows(page, s, s.len())
         }
-        Answer::Wrong(wrong, position) => {
-            let next = put(page, 0, b"answer\terror\t");
-            let next = wording::name(page, next, wrong);
-            let next = put(page, next, b"\n");
-            stop_rows(page, next, s, position)
+        Err(Unread::Bad(mistake)) => {
+            writeln!(page, "answer\terror\t{}", mistake.wrong)?;
+            stop_rows(page, s, mistake.position)
         }
     }
 }
 
 // The position where the reading stopped, and the line that it stopped in.
-fn stop_rows(page: &mut Page, at: usize, s: &[u8], position: usize) -> usize {
-    let line = place::last_line(place::part(s, 0, position));
-    let next = fill(
-        page,
-        at,
-        b"stopped\t#\nline-number\t#\n",
-        position,
-        line.number,
-    );
-    rows::piece(
-        page,
-        next,
-        b"line\t#\t#\t",
-        s,
-        line.start,
-        place::line_length(s, line.start),
-    )
-}
-
-fn for_person(
-    page: &mut Page,
-    kind: Kind,
-    reading: Reading,
-    s: &[u8],
-    settings: Settings,
-) -> usize {
-    let answer = reading.answer;
-    let next = match answer {
-        Answer::Complete(end) => complete(page, kind, end, s.len()),
-        Answer::Incomplete => incomplete(page, kind, s),
-        Answer::Wrong(wrong, position) => {
-            let expected = expected(reading, wrong, s, position, settings);
-            refused(page, wrong, expected, s, position)
-        }
+fn stop_rows(page: &mut Page, s: &[u8], position: usize) -> fmt::Result {
+    let place = Place::at(s, position);
+    writeln!(page, "stopped\t{position}")?;
+    writeln!(page, "line-number\t{}", place.number)?;
+    let line = Piece {
+        offset: place.start,
+        length: place.line.len(),
     };
-    heading(page, next, kind)
+    rows::piece(page, "line", s, line)
 }
 
-fn complete(page: &mut Page, kind: Kind, end: usize, all: usize) -> usize {
-    let next = put(page, 0, b"complete: ");
-    let next = wording::subject(page, next, kind);
-    fill(page, next, b" is the first # of # bytes\n", end, all)
+fn for_person(page: &mut Page, given: Given, reading: Reading) -> fmt::Result {
+    match reading.answer {
+        Ok(end) => complete(page, given, end)?,
+        Err(Unread::More) => incomplete(page, given)?,
+        Err(Unread::Bad(mistake)) => {
+            refused(page, given, mistake, expected(given, reading, mistake))?;
+        }
+    }
+    heading(page, given.kind)
 }
 
-fn incomplete(page: &mut Page, kind: Kind, s: &[u8]) -> usize {
-    let next = put(page, 0, b"incomplete");
-    let next = stop(page, next, s, s.len());
-    let next = put(
+fn complete(page: &mut Page, given: Given, end: usize) -> fmt::Result {
+    let kind = given.kind;
+    let all = given.bytes.len();
+    writeln!(page, "complete: {kind} is the first {end} of {all} bytes")
+}
+
+fn incomplete(page: &mut Page, given: Given) -> fmt::Result {
+    let kind = given.kind;
+    write!(page, "incomplete")?;
+    stop(page, given.bytes, given.bytes.len())?;
+    write!(
         page,
-        next,
-        b"  expected: more bytes, since the input ends before ",
-    );
-    let next = wording::subject(page, next, kind);
-    put(
-        page,
-        next,
-        b" does
+        "  expected: more bytes, since the input ends before {kind} does
   to do:    try again from the start when more bytes have come; if none will, the sender broke off: discard
             what came and ask for all of it again
-",
+"
     )
 }
 
-fn refused(page: &mut Page, wrong: Wrong, expected: Expected, s: &[u8], position: usize) -> usize {
-    let next = put(page, 0, b"error ");
-    let next = wording::name(page, next, wrong);
-    let next = stop(page, next, s, position);
-    let next = put(page, next, b"  expected: ");
-    let next = expected::sentence(page, next, expected);
-    let next = put(page, next, b"  to do:    ");
-    wording::advice::advice(page, next, expected)
+fn refused(page: &mut Page, given: Given, mistake: Mistake, expected: Expected) -> fmt::Result {
+    let advice = advice(expected);
+    write!(page, "error {}", mistake.wrong)?;
+    stop(page, given.bytes, mistake.position)?;
+    write!(page, "  expected: {expected}\n  to do:    {advice}\n")
 }
 
 // Where the reading stopped, and the line that it stopped in.
-fn stop(page: &mut Page, at: usize, s: &[u8], position: usize) -> usize {
-    let line = place::last_line(place::part(s, 0, position));
-    let next = fill(
-        page,
-        at,
-        b" at offset #, in line #:\n",
-        position,
-        line.number,
-    );
-    caret::pointed(page, next, s, line, position)
+fn stop(page: &mut Page, s: &[u8], position: usize) -> fmt::Result {
+    let place = Place::at(s, position);
+    writeln!(page, " at offset {position}, in line {}:", place.number)?;
+    write!(page, "{}", Pointed(place))
 }
 
 // What stands in the rows, but for a chunk's single row.
-fn heading(page: &mut Page, at: usize, kind: Kind) -> usize {
+fn heading(page: &mut Page, kind: Kind) -> fmt::Result {
     match kind {
-        Kind::Chunk => at,
-        _ => put(page, at, b"\nfield\toffset\tlength\ttext\n"),
+        Kind::Chunk => Ok(()),
+        _ => write!(page, "\nfield\toffset\tlength\ttext\n"),
     }
 }

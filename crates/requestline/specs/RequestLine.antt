@@ -1,6 +1,6 @@
 -- The start of a request: empty lines, then a request line, method SP target SP version and the line's end (RFC 9112, 3).
 -- Assumes nothing.
-use Rattle.std.specs.Prelude.{ℕ, ◌≡◌, List, Bool}
+use Rattle.std.specs.Prelude.{ℕ, ◌≡◌, List, Bool, None, Some}
 use Rattle.std.proofs.Common.{sym, ap, ◌∙◌}
 use Rattle.reader.specs.Machine.{Step, run_at}
 use Rattle.reader.specs.Seq.{Then, first, seq}
@@ -23,21 +23,19 @@ use Rattle.words.specs.Target.{Target, target_byte, target_step, target}
 use Rattle.words.specs.Target as targets
 use Rattle.versions.specs.Version.{name, version_step, version}
 use Rattle.requestline.specs.declared.RequestLine.{RequestLine}
-use Rattle.startline.specs.declared.KnownPiece.TheVariants as pieces
-use Rattle.startline.specs.declared.KnownNumber.TheVariants as numbers
 
 -- what each part adds to what is known
 abbrev pub unread : RequestLine
-unread = record { method = pieces.NotYet; target = pieces.NotYet; version = numbers.NotYet }
+unread = record { method = None; target = None; version = None }
 
 abbrev pub with_method : RequestLine → Piece → RequestLine
-with_method k m = record { method = pieces.Is m; target = k.target; version = k.version }
+with_method k m = record { method = Some m; target = k.target; version = k.version }
 
 abbrev pub with_target : RequestLine → Piece → RequestLine
-with_target k t = record { method = k.method; target = pieces.Is t; version = k.version }
+with_target k t = record { method = k.method; target = Some t; version = k.version }
 
 abbrev pub with_version : RequestLine → ℕ → RequestLine
-with_version k v = record { method = k.method; target = k.target; version = numbers.Is v }
+with_version k v = record { method = k.method; target = k.target; version = Some v }
 
 abbrev pub Line : Type 0 → Type 0
 Line S = Step S RequestLine (Fault × RequestLine)

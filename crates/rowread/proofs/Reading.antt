@@ -1,6 +1,6 @@
 -- Reading a row: what the next head comes to, and what is kept from one to the next.
 -- Assumes nothing.
-use Rattle.std.specs.Prelude.{ℕ, suc, ◌+◌, ◌-◌, ◌/◌, ◌≤◌, ◌<◌, ◌≡◌, refl, List, [], ◌∷◌, ◌++◌, length, take, drop, get_or, set}
+use Rattle.std.specs.Prelude.{ℕ, suc, ◌+◌, ◌-◌, ◌/◌, ◌≤◌, ◌<◌, ◌≡◌, refl, List, [], ◌∷◌, ◌++◌, length, take, drop, get_or, set, Err, Ok}
 use Rattle.std.proofs.Common.{arith, sym, ap, subst, ◌∙◌, append_assoc, append-nil, length-append, length-drop, length-set, take_all, drop_at, drop-cons}
 use Rattle.std.proofs.lemmas.List.{set_at}
 use Rattle.rules.specs.Rules.{Rules}
@@ -8,9 +8,9 @@ use Rattle.grammar.specs.Fields.{Field}
 use Rattle.grammar.specs.Message.{IsRequestHead, IsResponseHead}
 use Rattle.lengths.specs.Lengths.{head_long}
 use Rattle.parts.specs.declared.Fault.{Fault}
-use Rattle.parts.specs.Answers.{fault}
-use Rattle.parts.specs.declared.Passed.{Passed}
-use Rattle.parts.specs.declared.Passed.TheVariants.{At, More, Bad}
+use Rattle.parts.specs.declared.Unread.{Unread}
+use Rattle.parts.specs.Answers.{Passed, fault}
+use Rattle.parts.specs.declared.Unread.TheVariants.{More, Bad}
 use Rattle.requestline.specs.declared.RequestLine.{RequestLine}
 use Rattle.statusline.specs.declared.StatusLine.{StatusLine}
 use Rattle.agreement.specs.Known.{RequestSays, StatusSays, RequestInside, StatusInside}
@@ -22,14 +22,14 @@ use Rattle.rowread.specs.declared.RowRead.{RowRead}
 use Rattle.rowread.specs.declared.Stop.{Stop}
 use Rattle.rowread.specs.declared.Stop.TheVariants as stops
 use Rattle.rowread.specs.Row.{Row, none, more, Fitting, used, Used, untouched, behind, Stopped, all_read, full, unfinished, wrong, RowPromise}
-use Rattle.rowread.specs.Reading.{Next, Reading, fails, found, waits}
+use Rattle.rowread.specs.Reading.{Next, Reading, fails, found, waits, stop_of, WrongBefore}
 
 module _ {L K : Type 0} {Head : List ℕ → L → List Field → Type 0} {read : ℕ → List ℕ → Heads K} {Says : List ℕ → K → L → Type 0} {r : Rules} {In : List ℕ → K → Type 0} (long : (w : List ℕ) (l : L) (fs : List Field) → Head w l fs → 1 ≤ length w)
     {z old : List ℕ} {line : K} {count : ℕ} {new : List ℕ} where
   next : (end : Passed) → Told (read (length old / 4) z) end line count old new → HeadPromise r Head Says In z old end line count new → FaultPromise r (length old / 4) (read (length old / 4)) z end → Next Head read (length old / 4) z end
-  next (At q) T P F = let H = P.complete q refl in found H.rest H.whole H.end (long H.bytes H.said _ H.head) H.head (omega (arith, fields_counted z count new, P.within.0))
-  next More T P F = waits ((line, given (read (length old / 4) z)), T.answer) (P.incomplete refl)
-  next (Bad x) T P F = fails ((line, given (read (length old / 4) z)), T.answer) (F.placed x refl).within (P.error x refl) (P.error_at_all x refl)
+  next (Ok q) T P F = let H = P.complete q refl in found H.rest H.whole H.end (long H.bytes H.said _ H.head) H.head (omega (arith, fields_counted z count new, P.within.0))
+  next (Err More) T P F = waits ((line, given (read (length old / 4) z)), T.answer) (P.incomplete refl)
+  next (Err (Bad x)) T P F = fails ((line, given (read (length old / 4) z)), T.answer) (F.placed x refl).within (P.error x refl) (P.error_at_all x refl)
 
 -- all that stands behind a position
 rest_of : (s : List ℕ) (at : ℕ) → take (length s - at) (drop at s) ≡ drop at s
@@ -92,31 +92,35 @@ module _ {L K : Type 0} {Head : List ℕ → L → List Field → Type 0} {read 
 
   module _ {p : Passed} (x : Next Head read (length left / 4) (drop at s) p) where
     -- the reading goes on
-    pub reading_less : {q : ℕ} → p ≡ At q → at < length s → length s - (at + q) < length s - at
+    pub reading_less : {q : ℕ} → p ≡ Ok q → at < length s → length s - (at + q) < length s - at
     reading_less {q} e h = by (next_here x e)
       where
-        by : Next Head read n c.rest (At q) → length s - (at + q) < length s - at
+        by : Next Head read n c.rest (Ok q) → length s - (at + q) < length s - at
         by (found t z i k d f) = omega (arith, i, k, h)
 
     -- and within the input
-    pub reading_within : {q : ℕ} → p ≡ At q → at + q ≤ length s
+    pub reading_within : {q : ℕ} → p ≡ Ok q → at + q ≤ length s
     reading_within {q} e = by (next_here x e)
       where
-        by : Next Head read n c.rest (At q) → at + q ≤ length s
+        by : Next Head read n c.rest (Ok q) → at + q ≤ length s
         by (found {w = w} t z i k d f) = omega (arith, i, split_at, ap length z, length-append w t)
 
     -- and so is a wrong byte
-    pub reading_wrong_within : {y : Fault} → p ≡ Bad y → at + y.position < length s
+    pub reading_wrong_within : {y : Fault} → p ≡ Err (Bad y) → at + y.position < length s
     reading_wrong_within {y} e = by (next_here x e)
       where
-        by : Next Head read n c.rest (Bad y) → at + y.position < length s
+        by : Next Head read n c.rest (Err (Bad y)) → at + y.position < length s
         by (fails a l f g) = omega (arith, l, split_at)
 
+    pub reading_wrong_before : {n : ℕ} {y : Unread Fault} → p ≡ Err y → length s ≤ n → WrongBefore n at y
+    reading_wrong_before {n} {y = More} e h = tt
+    reading_wrong_before {n} {y = Bad z} e h = let w = reading_wrong_within e in omega arith
+
     module _ {left' : List ℕ} (u : left' ≡ used read (length left / 4) (drop at s) left) (size : length left' ≡ length left) where
-      pub reading_more : {q : ℕ} → p ≡ At q → count < length new → Reading Head read n s slots old left' (set new count (at + q)) (at + q) (count + 1)
+      pub reading_more : {q : ℕ} → p ≡ Ok q → count < length new → Reading Head read n s slots old left' (set new count (at + q)) (at + q) (count + 1)
       reading_more {q} e h = by (next_here x e)
         where
-          by : Next Head read n c.rest (At q) → Reading Head read n s slots old left' (set new count (at + q)) (at + q) (count + 1)
+          by : Next Head read n c.rest (Ok q) → Reading Head read n s slots old left' (set new count (at + q)) (at + q) (count + 1)
           by (found {w = w} t {l = l} {fs = fs} z i k d f) =
               let m : at + q ≡ length (c.bytes ++ w) = omega (arith, i, c.place, length-append c.bytes w) in
               let v : 0 + length (c.bytes ++ w) ≡ at + q = omega (arith, m) in
@@ -168,16 +172,20 @@ module _ {L K : Type 0} {Head : List ℕ → L → List Field → Type 0} {read 
     reading_full h k e = ended e (full (omega (arith, i, k, c.size, c.room)) (omega (arith, h, split_at)))
 
     module _ {p : Passed} (x : Next Head read (length left / 4) (drop at s) p) {left' : List ℕ} (u : left' ≡ used read (length left / 4) (drop at s) left) (h : at < length s) (k : count < length new) where
-      pub reading_unfinished : p ≡ More → r.stop ≡ stops.More → RowPromise Head read n s slots old r left' new
+      pub reading_unfinished : p ≡ Err More → r.stop ≡ stops.More → RowPromise Head read n s slots old r left' new
       reading_unfinished e f = ended f (subst (Stopped Head read n at c.rest r.count (length old) left stops.More) (sym (tried u)) (by (next_here x e)))
         where
-          by : Next Head read n c.rest More → Stopped Head read n at c.rest r.count (length old) left stops.More (used read n c.rest left)
+          by : Next Head read n c.rest (Err More) → Stopped Head read n at c.rest r.count (length old) left stops.More (used read n c.rest left)
           by (waits a y) = unfinished a y (omega (arith, h, split_at)) (omega (arith, i, k, c.size))
 
-      pub reading_wrong : {z : Fault} → p ≡ Bad z → r.stop ≡ stops.Bad (fault z.error (at + z.position)) → RowPromise Head read n s slots old r left' new
+      pub reading_wrong : {z : Fault} → p ≡ Err (Bad z) → r.stop ≡ stops.Bad (fault z.error (at + z.position)) → RowPromise Head read n s slots old r left' new
       reading_wrong {z} e f = ended f (subst (Stopped Head read n at c.rest r.count (length old) left (stops.Bad (fault z.error (at + z.position)))) (sym (tried u)) (by (next_here x e)))
         where
-          by : Next Head read n c.rest (Bad z) → Stopped Head read n at c.rest r.count (length old) left (stops.Bad (fault z.error (at + z.position))) (used read n c.rest left)
+          by : Next Head read n c.rest (Err (Bad z)) → Stopped Head read n at c.rest r.count (length old) left (stops.Bad (fault z.error (at + z.position))) (used read n c.rest left)
           by (fails a l y b) = wrong a l y b (omega (arith, h, split_at)) (omega (arith, i, k, c.size))
 
-pub ruleset readings = (reading_none, reading_less, reading_within, reading_more, reading_end, reading_full, reading_unfinished, reading_wrong)
+      pub reading_unread : {y : Unread Fault} → p ≡ Err y → r.stop ≡ stop_of at y → RowPromise Head read n s slots old r left' new
+      reading_unread {y = More} e f = reading_unfinished e f
+      reading_unread {y = Bad z} e f = reading_wrong e f
+
+pub ruleset readings = (reading_none, reading_less, reading_within, reading_wrong_before, reading_more, reading_end, reading_full, reading_unread)

@@ -1,12 +1,11 @@
 -- Heads one behind another, and what reading them comes to.
 -- Assumes nothing.
-use Rattle.std.specs.Prelude.{ℕ, ◌+◌, ◌≤◌, ◌<◌, ◌≡◌, List, [], ◌∷◌, ◌++◌, length, drop}
+use Rattle.std.specs.Prelude.{ℕ, ◌+◌, ◌≤◌, ◌<◌, ◌≡◌, List, [], ◌∷◌, ◌++◌, length, drop, Err}
 use Rattle.grammar.specs.Fields.{Field}
 use Rattle.parts.specs.declared.Error.TheVariants.{TooManyHeaders}
 use Rattle.parts.specs.declared.Fault.{Fault}
-use Rattle.parts.specs.Answers.{fault}
-use Rattle.parts.specs.declared.Passed.{Passed}
-use Rattle.parts.specs.declared.Passed.TheVariants.{More, Bad}
+use Rattle.parts.specs.Answers.{Passed, fault}
+use Rattle.parts.specs.declared.Unread.TheVariants.{More, Bad}
 use Rattle.startline.specs.Answers.{tell}
 use Rattle.blocks.specs.Slots.{filled}
 use Rattle.heads.specs.Head.{Heads, Known, given}
@@ -46,10 +45,10 @@ pub data Stopped {L K : Type 0} (Head : List ℕ → L → List Field → Type 0
   -- there is no room for the end of one more
   full : count ≡ room → 1 ≤ length rest → Stopped Head read n at rest count room left stops.Full left
   -- the reader waits for more, and no head has ended yet in what is left
-  unfinished : Ends (read n rest) More → ((w t : List ℕ) (l : L) (fs : List Field) → rest ≡ w ++ t → Head w l fs → ⊥) → 1 ≤ length rest → count < room → Stopped Head read n at rest count room left stops.More (used read n rest left)
+  unfinished : Ends (read n rest) (Err More) → ((w t : List ℕ) (l : L) (fs : List Field) → rest ≡ w ++ t → Head w l fs → ⊥) → 1 ≤ length rest → count < room → Stopped Head read n at rest count room left stops.More (used read n rest left)
   -- the reader has that error, so many bytes behind the position: no head that fits the slots begins there, whatever bytes u follow, and none
   -- at all if it is not TooManyHeaders
-  wrong : {x : Fault} → Ends (read n rest) (Bad x) → x.position < length rest → ((u w t : List ℕ) (l : L) (fs : List Field) → rest ++ u ≡ w ++ t → Head w l fs → length fs ≤ n → ⊥) → ((x.error ≡ TooManyHeaders → ⊥) → (u w t : List ℕ) (l : L) (fs : List Field) → rest ++ u ≡ w ++ t → Head w l fs → ⊥) → 1 ≤ length rest → count < room → Stopped Head read n at rest count room left (stops.Bad (fault x.error (at + x.position))) (used read n rest left)
+  wrong : {x : Fault} → Ends (read n rest) (Err (Bad x)) → x.position < length rest → ((u w t : List ℕ) (l : L) (fs : List Field) → rest ++ u ≡ w ++ t → Head w l fs → length fs ≤ n → ⊥) → ((x.error ≡ TooManyHeaders → ⊥) → (u w t : List ℕ) (l : L) (fs : List Field) → rest ++ u ≡ w ++ t → Head w l fs → ⊥) → 1 ≤ length rest → count < room → Stopped Head read n at rest count room left (stops.Bad (fault x.error (at + x.position))) (used read n rest left)
 
 -- what was read is a row of heads that fit the slots, its ends are in their places, and those behind them are as they were
 pub record RowPromise {L K : Type 0} (Head : List ℕ → L → List Field → Type 0) (read : ℕ → List ℕ → Heads K) (n : ℕ) (s slots old : List ℕ) (r : RowRead) (slots' new : List ℕ) : Type 0 where

@@ -2,7 +2,7 @@
 #![tactic(auto)]
 
 // What a caller asks for; httparse's default has all of them off.
-#[derive(Clone, Copy)]
+#[derive(Clone, Copy, Default)]
 pub struct Settings {
     // a target is visible ASCII alone
     pub ascii_targets: bool,
@@ -23,7 +23,7 @@ pub struct Settings {
 }
 
 // What of it concerns the lines of headers.
-#[derive(Clone, Copy)]
+#[derive(Clone, Copy, Default)]
 pub struct LineSettings {
     pub space_before_first_name: bool,
     pub spaces_after_name: bool,

@@ -6,22 +6,16 @@ ghost use Rattle.rules.specs.Rules.{default};
 ghost use Rattle.parts.specs.Answers.{passed};
 ghost use Rattle.spaces.specs.Space.{space as space_at, behind_code};
 
-use parts::{Error, Fault, Passed};
+use parts::{Error, Passed, Unread};
 
 // The single space between a version and a code.
 pub fn space(s: &[u8], at: usize, error: Error) -> Passed
     ensures { passed result ≡ space_at error s.now at }
 {
-    if s.len() <= at {
-        return Passed::More;
-    }
-    if s[at] == 32 {
-        Passed::At(at + 1)
+    if parts::byte(s, at)? == b' ' {
+        Ok(at + 1)
     } else {
-        Passed::Bad(Fault {
-            error,
-            position: at,
-        })
+        Err(Unread::bad(error, at))
     }
 }
 
@@ -29,22 +23,9 @@ pub fn space(s: &[u8], at: usize, error: Error) -> Passed
 pub fn behind_code(s: &[u8], at: usize) -> Passed
     ensures { passed result ≡ behind_code default s.now at }
 {
-    if s.len() <= at {
-        return Passed::More;
-    }
-    let b = s[at];
-    if b == 32 {
-        return Passed::At(at + 1);
-    }
-    if b == 13 {
-        return Passed::At(at);
-    }
-    if b == 10 {
-        Passed::At(at)
-    } else {
-        Passed::Bad(Fault {
-            error: Error::Status,
-            position: at,
-        })
+    match parts::byte(s, at)? {
+        b' ' => Ok(at + 1),
+        b'\r' | b'\n' => Ok(at),
+        _ => Err(Unread::bad(Error::Status, at)),
     }
 }

@@ -1,18 +1,11 @@
-// What request lines and status lines share: a part of a line is known, or not yet.
+// What request lines and status lines share: how far one was read, and what is known of it by then.
 #![tactic(auto)]
 
-use parts::Piece;
+use parts::Passed;
 
-// A piece that is known, or not yet.
+// What reading a start line comes to, and what is known of it by then.
 #[derive(Clone, Copy)]
-pub enum KnownPiece {
-    Is(Piece),
-    NotYet,
-}
-
-// A number that is known, or not yet.
-#[derive(Clone, Copy)]
-pub enum KnownNumber {
-    Is(usize),
-    NotYet,
+pub struct StartLineRead<L> {
+    pub end: Passed,
+    pub line: L,
 }

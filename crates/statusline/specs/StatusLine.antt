@@ -1,6 +1,6 @@
 -- The start of a response: empty lines, then a status line, version SP code SP reason and the line's end (RFC 9112, 4).
 -- Assumes nothing.
-use Rattle.std.specs.Prelude.{ℕ, ◌≡◌, List, Bool}
+use Rattle.std.specs.Prelude.{ℕ, ◌≡◌, List, Bool, None, Some}
 use Rattle.std.proofs.Common.{sym, ap, ◌∙◌}
 use Rattle.reader.specs.Machine.{Step, run_at}
 use Rattle.reader.specs.Judged.{pass, judged}
@@ -26,21 +26,19 @@ use Rattle.status.specs.Code as codes
 use Rattle.status.specs.Reason.{Reason, reason_step, reason}
 use Rattle.status.specs.Reason as reasons
 use Rattle.statusline.specs.declared.StatusLine.{StatusLine}
-use Rattle.startline.specs.declared.KnownPiece.TheVariants as pieces
-use Rattle.startline.specs.declared.KnownNumber.TheVariants as numbers
 
 -- what each part adds to what is known
 abbrev pub unread : StatusLine
-unread = record { version = numbers.NotYet; code = numbers.NotYet; reason = pieces.NotYet }
+unread = record { version = None; code = None; reason = None }
 
 abbrev pub with_version : StatusLine → ℕ → StatusLine
-with_version k v = record { version = numbers.Is v; code = k.code; reason = k.reason }
+with_version k v = record { version = Some v; code = k.code; reason = k.reason }
 
 abbrev pub with_code : StatusLine → ℕ → StatusLine
-with_code k c = record { version = k.version; code = numbers.Is c; reason = k.reason }
+with_code k c = record { version = k.version; code = Some c; reason = k.reason }
 
 abbrev pub with_reason : StatusLine → Piece → StatusLine
-with_reason k w = record { version = k.version; code = k.code; reason = pieces.Is w }
+with_reason k w = record { version = k.version; code = k.code; reason = Some w }
 
 abbrev pub Line : Type 0 → Type 0
 Line S = Step S StatusLine (Fault × StatusLine)

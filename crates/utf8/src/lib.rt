@@ -1,75 +1,57 @@
 // Whether bytes are well-formed UTF-8, as RFC 3629, section 4, has it.
 #![tactic(auto)]
 
-ghost use Rattle.std.specs.Prelude.{◌≡◌};
+ghost use Rattle.std.specs.Prelude.{◌≡◌, Some};
 ghost use Rattle.utf8.specs.Reader.{lead as lead_of, step as step_of, utf8};
 ghost use Rattle.utf8.specs.Values.{moved, state};
 
+use octets::Ascii;
+
 // How many bytes of a character are still to come, and the range of the next.
-#[derive(Drop)]
+#[derive(Clone, Copy)]
 pub struct Awaited {
     pub left: usize,
     pub low: u8,
     pub high: u8,
 }
 
-// What a byte makes of it.
-#[derive(Drop)]
-pub enum Moved {
-    Keep(Awaited),
-    Refuse,
-}
-
-fn keep(left: usize, low: u8, high: u8) -> Moved
-    ensures { result ≡ Moved.Keep (record { left = left; low = low; high = high }) }
+fn keep(left: usize, low: u8, high: u8) -> Option<Awaited>
+    ensures { result ≡ Some (record { left = left; low = low; high = high }) }
 {
-    Moved::Keep(Awaited { left, low, high })
+    Some(Awaited { left, low, high })
 }
 
-// The first byte of a character.
-fn lead(b: u8) -> Moved
+// What the first byte of a character makes of the rest: none, where no character begins with it.
+#[tactic(auto, unfolding(crate::specs::Reader::lead, octets::specs::Class::within))]
+fn lead(b: u8) -> Option<Awaited>
     ensures { moved result ≡ lead_of b }
 {
-    if b < 0x80 {
-        return keep(0, 0x80, 0xBF);
+    match b {
+        0x00..=0x7F => keep(0, 0x80, 0xBF),
+        0xC2..=0xDF => keep(1, 0x80, 0xBF),
+        0xE0 => keep(2, 0xA0, 0xBF),
+        0xE1..=0xEC => keep(2, 0x80, 0xBF),
+        0xED => keep(2, 0x80, 0x9F),
+        0xEE..=0xEF => keep(2, 0x80, 0xBF),
+        0xF0 => keep(3, 0x90, 0xBF),
+        0xF1..=0xF3 => keep(3, 0x80, 0xBF),
+        0xF4 => keep(3, 0x80, 0x8F),
+        _ => None,
     }
-    if (0xC2 <= b) & (b <= 0xDF) {
-        return keep(1, 0x80, 0xBF);
-    }
-    if b == 0xE0 {
-        return keep(2, 0xA0, 0xBF);
-    }
-    if (0xE1 <= b) & (b <= 0xEC) {
-        return keep(2, 0x80, 0xBF);
-    }
-    if b == 0xED {
-        return keep(2, 0x80, 0x9F);
-    }
-    if (0xEE <= b) & (b <= 0xEF) {
-        return keep(2, 0x80, 0xBF);
-    }
-    if b == 0xF0 {
-        return keep(3, 0x90, 0xBF);
-    }
-    if (0xF1 <= b) & (b <= 0xF3) {
-        return keep(3, 0x80, 0xBF);
-    }
-    if b == 0xF4 {
-        return keep(3, 0x80, 0x8F);
-    }
-    Moved::Refuse
 }
 
-fn step(a: Awaited, b: u8) -> Moved
+#[tactic(auto, using(crate::proofs::Come::steps), unfolding(octets::specs::Class::within))]
+fn step(a: Awaited, b: u8) -> Option<Awaited>
     ensures { moved result ≡ step_of (state a) b }
 {
     if a.left == 0 {
         return lead(b);
     }
     if (a.low <= b) & (b <= a.high) {
-        return keep(a.left - 1, 0x80, 0xBF);
+        keep(a.left - 1, 0x80, 0xBF)
+    } else {
+        None
     }
-    Moved::Refuse
 }
 
 // The machine begins at the first byte that is not ASCII, since most targets have none.
@@ -81,18 +63,12 @@ pub fn is_utf8(s: &[u8]) -> bool
         low: 0x80,
         high: 0xBF,
     };
-    let mut i = skips::skip_ascii(s, 0);
-    while i < s.len() {
-        let m = step(awaited, s[i]);
-        match m {
-            Moved::Keep(next) => {
-                awaited = next;
-            }
-            Moved::Refuse => {
-                return false;
-            }
-        }
-        i += 1;
+    let start = skips::skip::<Ascii>(s, 0);
+    for b in &s[start..] {
+        let Some(next) = step(awaited, *b) else {
+            return false;
+        };
+        awaited = next;
     }
     awaited.left == 0
 }

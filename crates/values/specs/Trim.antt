@@ -3,7 +3,6 @@
 use Rattle.std.specs.Prelude.{ℕ, ◌-◌, ◌≤◌, ◌<◌, ◌≡◌, List, true, false, get_or}
 use Rattle.std.proofs.Common.{arith}
 use Rattle.std.proofs.Math.Decide.{dec_lt}
-use Rattle.reader.proofs.Skip.{told_true, told_false}
 use Rattle.octets.specs.Class.{is_blank}
 
 -- all from t up to end is blank
@@ -33,5 +32,3 @@ module _ {xs : List ℕ} {from end : ℕ} where
 
   pub trimmed_all : {t : ℕ} → Cut xs from end t → t ≤ from → Trimmed xs from end t
   trimmed_all c h = record { cut = c; last = λ l. absurd (omega arith) }
-
-pub ruleset trims = (cut_none, cut_more, trimmed_at, trimmed_all, told_true, told_false)

@@ -2,43 +2,28 @@
 #![tactic(auto)]
 
 ghost use Rattle.std.specs.Prelude.{◌≡◌};
-ghost use Rattle.parts.specs.Answers.{number};
+ghost use Rattle.parts.specs.Answers.{read};
 ghost use Rattle.versions.specs.Version.{version as version_at};
 
-use parts::{Error, Fault, Number};
+use parts::{Error, Read, Unread};
 
 const NAME: [u8; 7] = *b"HTTP/1.";
 
 // HTTP/1.0 or HTTP/1.1, and the last digit of it.
-pub fn version(s: &[u8], at: usize) -> Number
-    ensures { number result ≡ version_at s.now at }
+#[tactic(auto, using(crate::specs::Version::versions))]
+pub fn version(s: &[u8], at: usize) -> Read<usize>
+    ensures { read result ≡ version_at s.now at }
 {
     let mut i = at;
-    let mut k = 0;
-    while k < 7 {
-        if s.len() <= i {
-            return Number::More;
-        }
-        if s[i] != NAME[k] {
-            return Number::Bad(Fault {
-                error: Error::Version,
-                position: i,
-            });
+    for b in NAME {
+        if parts::byte(s, i)? != b {
+            return Err(Unread::bad(Error::Version, i));
         }
         i += 1;
-        k += 1;
     }
-    if s.len() <= i {
-        return Number::More;
+    match parts::byte(s, i)? {
+        b'0' => Ok((0, i + 1)),
+        b'1' => Ok((1, i + 1)),
+        _ => Err(Unread::bad(Error::Version, i)),
     }
-    if s[i] == 48 {
-        return Number::At(0, i + 1);
-    }
-    if s[i] == 49 {
-        return Number::At(1, i + 1);
-    }
-    Number::Bad(Fault {
-        error: Error::Version,
-        position: i,
-    })
 }

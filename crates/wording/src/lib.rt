@@ -1,11 +1,15 @@
 // What can be read and what can be wrong with it, and what an answer means, in words that somebody can act on.
 #![tactic(auto)]
 
+ghost use Rattle.std.specs.Prelude.{Some};
+ghost use Rattle.wording.specs.Words.{name, subject};
+
 pub mod advice;
 
-use page::text::{Page, put};
 use parts::Error;
+use std::fmt;
 
+// What an input is read as.
 #[derive(Clone, Copy)]
 pub enum Kind {
     Request,
@@ -21,27 +25,35 @@ pub enum Wrong {
     Size,
 }
 
-pub fn subject(page: &mut Page, at: usize, kind: Kind) -> usize {
-    match kind {
-        Kind::Request => put(page, at, b"the request's head"),
-        Kind::Response => put(page, at, b"the response's head"),
-        Kind::Headers => put(page, at, b"the block of headers"),
-        Kind::Chunk => put(page, at, b"the chunk's size line"),
+impl fmt::Display for Kind {
+    ghost output = { λ kind. Some (subject kind) };
+
+    fn fmt<W: fmt::Write>(&self, f: &mut fmt::Formatter<W>) -> fmt::Result {
+        f.write_str(match self {
+            Kind::Request => "the request's head",
+            Kind::Response => "the response's head",
+            Kind::Headers => "the block of headers",
+            Kind::Chunk => "the chunk's size line",
+        })
     }
 }
 
 // The error's name in the library.
-pub fn name(page: &mut Page, at: usize, wrong: Wrong) -> usize {
-    match wrong {
-        Wrong::Size => put(page, at, b"InvalidChunkSize"),
-        Wrong::Head(e) => match e {
-            Error::HeaderName => put(page, at, b"HeaderName"),
-            Error::HeaderValue => put(page, at, b"HeaderValue"),
-            Error::NewLine => put(page, at, b"NewLine"),
-            Error::Status => put(page, at, b"Status"),
-            Error::Token => put(page, at, b"Token"),
-            Error::TooManyHeaders => put(page, at, b"TooManyHeaders"),
-            Error::Version => put(page, at, b"Version"),
-        },
+impl fmt::Display for Wrong {
+    ghost output = { λ wrong. Some (name wrong) };
+
+    fn fmt<W: fmt::Write>(&self, f: &mut fmt::Formatter<W>) -> fmt::Result {
+        f.write_str(match self {
+            Wrong::Size => "InvalidChunkSize",
+            Wrong::Head(error) => match error {
+                Error::HeaderName => "HeaderName",
+                Error::HeaderValue => "HeaderValue",
+                Error::NewLine => "NewLine",
+                Error::Status => "Status",
+                Error::Token => "Token",
+                Error::TooManyHeaders => "TooManyHeaders",
+                Error::Version => "Version",
+            },
+        })
     }
 }

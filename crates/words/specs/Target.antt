@@ -12,7 +12,7 @@ use Rattle.reader.specs.Skip.{Skipped}
 use Rattle.reader.proofs.Skip.{told_true, told_false}
 use Rattle.reader.specs.Laws.{resume}
 use Rattle.reader.proofs.Laws.{run_in, run_out}
-use Rattle.reader.specs.Answer.{Answer, got, short, bad}
+use Rattle.reader.specs.Answer.{Answer, got}
 use Rattle.reader.specs.Chain.{reads}
 use Rattle.octets.specs.Class.{is_target, is_visible}
 use Rattle.octets.specs.Outside.{space_no_target, space_not_visible}
@@ -20,7 +20,9 @@ use Rattle.utf8.specs.Reader.{State, step, machine, whole, utf8}
 use Rattle.parts.specs.declared.Error.TheVariants.{Token}
 use Rattle.parts.specs.declared.Fault.{Fault}
 use Rattle.parts.specs.declared.Piece.{Piece}
-use Rattle.parts.specs.Answers.{piece, fault}
+use Rattle.parts.specs.declared.Unread.{Unread}
+use Rattle.parts.specs.Answers.{piece, fault, refusal, stopped}
+use Rattle.parts.specs.Byte.{Is, IsPast}
 
 -- a run of the UTF-8 reader
 abbrev pub Utf8 : Type 0
@@ -105,40 +107,42 @@ module _ (class : ℕ → Bool) (xs : List ℕ) (a : ℕ) where
       (fed d (i + 1) (feed u i (get_or xs i 0)) (omega arith) (λ k lo hi. g k (omega arith) (omega arith)) ∙ rw (e, resume_fed u i (get_or xs i 0) (take d (drop (i + 1) xs)), drop_in xs i (omega arith)))
 
 module _ (class : ℕ → Bool) (xs : List ℕ) (at : ℕ) where
-  pub target_none : length xs ≤ at → short tt ≡ target class xs at
-  target_none h = rw (run_out (target_step class) none xs at h)
+  pub target_none : {x : Unread Fault} → IsPast xs at x → stopped x ≡ target class xs at
+  target_none h = rw (h.more, run_out (target_step class) none xs at h.past)
 
-  pub target_not : at < length xs → class (get_or xs at 0) ≡ false → bad (fault Token at) ≡ target class xs at
-  target_not h c = rw (run_in (target_step class) none xs at h, c)
+  module _ {b : ℕ} (h : Is xs at b) where
+    pub target_not : class b ≡ false → {x : Unread Fault} → x ≡ refusal Token at → stopped x ≡ target class xs at
+    target_not c i = rw (i, run_in (target_step class) none xs at h.inside, ← h.there, c)
 
-  module _ {r : ℕ} (h : at < length xs) (c : class (get_or xs at 0) ≡ true) (k : Skipped class xs (at + 1) r) where
-    seen : Utf8
-    seen = run machine [] at (take (r - at) (drop at xs))
+    module _ {r : ℕ} (c : class b ≡ true) (k : Skipped class xs (at + 1) r) where
+      seen : Utf8
+      seen = run machine [] at (take (r - at) (drop at xs))
 
-    target_some : run_at (target_step class) none xs at ≡ run_at (target_step class) (some at seen) xs r
-    unfolding seen
-    target_some =
-        let d : at + 1 + (r - (at + 1)) ≡ r = omega (arith, k.passed.from) in
-        let n : r - at ≡ suc (r - (at + 1)) = omega (arith, k.passed.from) in
-        let l : r ≤ length xs = k.passed.inside (omega arith) in
-        rw (run_in (target_step class) none xs at h, c)
-        (fed class xs at (r - (at + 1)) (at + 1) (feed (more []) at (get_or xs at 0)) (omega arith) (λ i lo hi. k.passed.all i lo (omega arith))
-        ∙ rw (d, resume_fed (more []) at (get_or xs at 0) (take (r - (at + 1)) (drop (at + 1) xs)), n, drop_in xs at h))
-
-    pub target_more : length xs ≤ r → short tt ≡ target class xs at
-    target_more l = rw (target_some, run_out (target_step class) (some at seen) xs r l)
-
-    pub target_bad : r < length xs → (get_or xs r 0 ≡ 32 → ⊥) → bad (fault Token r) ≡ target class xs at
-    target_bad l t = rw (target_some, run_in (target_step class) (some at seen) xs r l, k.stop l, ne_eqb _ _ t)
-
-    -- what the test of UTF-8 told comes before what it tells of, so that a search knows which test is meant
-    module _ (l : r < length xs) (t : get_or xs r 0 ≡ 32) where
-      pub target_end : {w : Bool} → not w ≡ false → w ≡ utf8 (take (r - at) (drop at xs)) → got (piece at r) (r + 1) ≡ target class xs at
+      target_some : run_at (target_step class) none xs at ≡ run_at (target_step class) (some at seen) xs r
       unfolding seen
-      target_end v u = rw (target_some, run_in (target_step class) (some at seen) xs r l, k.stop l, eq-eqb _ _ t, anywhere (take (r - at) (drop at xs)) [] at 0, told_true u v)
+      target_some =
+          let d : at + 1 + (r - (at + 1)) ≡ r = omega (arith, k.passed.from) in
+          let n : r - at ≡ suc (r - (at + 1)) = omega (arith, k.passed.from) in
+          let l : r ≤ length xs = k.passed.inside (omega (arith, h.inside)) in
+          rw (run_in (target_step class) none xs at h.inside, ← h.there, c, h.there)
+          (fed class xs at (r - (at + 1)) (at + 1) (feed (more []) at (get_or xs at 0)) (omega arith) (λ i lo hi. k.passed.all i lo (omega arith))
+          ∙ rw (d, resume_fed (more []) at (get_or xs at 0) (take (r - (at + 1)) (drop (at + 1) xs)), n, drop_in xs at h.inside))
 
-      pub target_broken : {w : Bool} → not w ≡ true → w ≡ utf8 (take (r - at) (drop at xs)) → bad (fault Token r) ≡ target class xs at
-      unfolding seen
-      target_broken v u = rw (target_some, run_in (target_step class) (some at seen) xs r l, k.stop l, eq-eqb _ _ t, anywhere (take (r - at) (drop at xs)) [] at 0, told_false u v)
+      pub target_more : {x : Unread Fault} → IsPast xs r x → stopped x ≡ target class xs at
+      target_more l = rw (l.more, target_some, run_out (target_step class) (some at seen) xs r l.past)
+
+      module _ {e : ℕ} (l : Is xs r e) where
+        pub target_bad : (e ≡ 32 → ⊥) → {x : Unread Fault} → x ≡ refusal Token r → stopped x ≡ target class xs at
+        target_bad t i = rw (i, target_some, run_in (target_step class) (some at seen) xs r l.inside, k.stop l.inside, ← l.there, ne_eqb _ _ t)
+
+        -- what the test of UTF-8 told comes before what it tells of, so that a search knows which test is meant
+        module _ (t : e ≡ 32) where
+          pub target_end : {w : Bool} → not w ≡ false → w ≡ utf8 (take (r - at) (drop at xs)) → got (piece at r) (r + 1) ≡ target class xs at
+          unfolding seen
+          target_end v u = rw (target_some, run_in (target_step class) (some at seen) xs r l.inside, k.stop l.inside, ← l.there, eq-eqb _ _ t, anywhere (take (r - at) (drop at xs)) [] at 0, told_true u v)
+
+          pub target_broken : {w : Bool} → not w ≡ true → w ≡ utf8 (take (r - at) (drop at xs)) → {x : Unread Fault} → x ≡ refusal Token r → stopped x ≡ target class xs at
+          unfolding seen
+          target_broken v u i = rw (i, target_some, run_in (target_step class) (some at seen) xs r l.inside, k.stop l.inside, ← l.there, eq-eqb _ _ t, anywhere (take (r - at) (drop at xs)) [] at 0, told_false u v)
 
 pub ruleset targets = (target_none, target_not, target_more, target_bad, target_end, target_broken, told_true, told_false)

@@ -2,103 +2,62 @@
 #![tactic(auto)]
 
 ghost use Rattle.std.specs.Prelude.{◌≡◌, not};
-ghost use Rattle.reader.specs.Skip.{Skipped};
 ghost use Rattle.octets.specs.Class.{is_token};
-ghost use Rattle.parts.specs.Answers.{found};
+ghost use Rattle.parts.specs.Answers.{read};
 ghost use Rattle.words.specs.Word.{word};
 ghost use Rattle.words.specs.Target.{target as target_at, target_byte};
 
-use parts::{Error, Fault, Found, Piece};
+use flags::Eights;
+use octets::{Class, Target, Token, Visible};
+use parts::{Error, Piece, Read, Unread};
 
 // One or more token bytes, and the byte that ends them.
-pub fn token(s: &[u8], at: usize, end: u8, error: Error) -> Found
-    ensures { found result ≡ word is_token end error s.now at }
+pub fn token(s: &[u8], at: usize, end: u8, error: Error) -> Read<Piece>
+    ensures { read result ≡ word is_token end error s.now at }
 {
-    if s.len() <= at {
-        return Found::More;
+    if !Token::holds(parts::byte(s, at)?) {
+        return Err(Unread::bad(error, at));
     }
-    if !octets::is_token(s[at]) {
-        return Found::Bad(Fault {
-            error,
-            position: at,
-        });
+    let stop = skips::skip::<Token>(s, at + 1);
+    if parts::byte(s, stop)? != end {
+        return Err(Unread::bad(error, stop));
     }
-    let stop = skips::skip_token(s, at + 1);
-    if s.len() <= stop {
-        return Found::More;
-    }
-    if s[stop] == end {
-        Found::At(
-            Piece {
-                offset: at,
-                length: stop - at,
-            },
-            stop + 1,
-        )
-    } else {
-        Found::Bad(Fault {
-            error,
-            position: stop,
-        })
-    }
+    let word = Piece {
+        offset: at,
+        length: stop - at,
+    };
+    Ok((word, stop + 1))
 }
 
-// A byte of a target: visible ASCII alone, where that is asked for.
-fn is_target_byte(b: u8, ascii: bool) -> bool
-    ensures { result ≡ target_byte (not ascii) b }
+// One or more bytes of a class, and a space. That they are UTF-8 is looked at when the space is there, and not before. It is no instance of
+// `token`: the definitions are two machines, since that of a target follows its UTF-8 byte by byte.
+fn target_of<C: Eights>(s: &[u8], at: usize) -> Read<Piece>
+    ensures { read result ≡ target_at C.holds s.now at }
 {
-    if ascii {
-        octets::is_visible(b)
-    } else {
-        octets::is_target(b)
+    if !C::holds(parts::byte(s, at)?) {
+        return Err(Unread::bad(Error::Token, at));
     }
-}
-
-// The end of a row of such bytes.
-fn target_end(s: &[u8], at: usize, ascii: bool) -> usize
-    ensures { Skipped (target_byte (not ascii)) s.now at result }
-{
-    if ascii {
-        skips::skip_visible(s, at)
-    } else {
-        skips::skip_target(s, at)
-    }
-}
-
-// One or more target bytes, and a space. That they are UTF-8 is looked at when the space is there, and not before.
-pub fn target(s: &[u8], at: usize, ascii: bool) -> Found
-    ensures { found result ≡ target_at (target_byte (not ascii)) s.now at }
-{
-    if s.len() <= at {
-        return Found::More;
-    }
-    if !is_target_byte(s[at], ascii) {
-        return Found::Bad(Fault {
-            error: Error::Token,
-            position: at,
-        });
-    }
-    let gap = target_end(s, at + 1, ascii);
-    if s.len() <= gap {
-        return Found::More;
-    }
-    if s[gap] != 32 {
-        return Found::Bad(Fault {
-            error: Error::Token,
-            position: gap,
-        });
+    let gap = skips::skip::<C>(s, at + 1);
+    if parts::byte(s, gap)? != b' ' {
+        return Err(Unread::bad(Error::Token, gap));
     }
     if !utf8::is_utf8(&s[at..gap]) {
-        return Found::Bad(Fault {
-            error: Error::Token,
-            position: gap,
-        });
+        return Err(Unread::bad(Error::Token, gap));
     }
-    Found::At(
-        Piece {
-            offset: at,
-            length: gap - at,
-        },
-        gap + 1,
-    )
+    let target = Piece {
+        offset: at,
+        length: gap - at,
+    };
+    Ok((target, gap + 1))
+}
+
+// A target, of visible ASCII alone where that is asked for.
+pub fn target(s: &[u8], at: usize, ascii: bool) -> Read<Piece>
+    ensures { read result ≡ target_at (target_byte (not ascii)) s.now at }
+{
+    if ascii {
+        target_of::<Visible>(s, at)
+    } else {
+        target_of::<Target>(s, at)
+    }
 }

@@ -1,71 +1,39 @@
 // The plain form of what was read, written into bytes that the caller lends. It demands nothing of the caller.
-#![tactic(auto)]
+#![tactic(auto, using(crate::specs::Promise::promises))]
 
-ghost use Rattle.places.specs.Lies.{RequestLies, ResponseLies, BlockLies};
-ghost use Rattle.writer.specs.Promise.{request_form, response_form, block_form, PlainPromise};
+ghost use Rattle.writer.specs.Promise.{PlainPromise};
 
-use blocks::Block;
-use heads::{RequestHead, ResponseHead};
+use formlines::Plain;
 
-// So many bytes were written; so many are needed, and nothing was written; what was read is not complete, or its places do not lie in the
-// input; there are more bytes to write than a number can say. What is written is a head if a call answered it on the same input.
-#[derive(Drop)]
-pub enum Writing {
-    Written(usize),
+// Why nothing was written: so many bytes are needed; what was read is not complete, or its places do not lie in the input; there are more
+// bytes to write than a number can say.
+#[derive(Clone, Copy)]
+pub enum Unwritten {
     Needs(usize),
     Unwritable,
     TooLong,
 }
 
-pub fn plain_request(s: &[u8], head: RequestHead, slots: &[usize], out: &mut [u8]) -> Writing
-    ensures { PlainPromise s.now (RequestLies s.now head slots.now) (request_form s.now head slots.now) out.old result out.new }
+// Answers how many bytes were written. What is written is a head if a call answered it on the same input.
+pub fn plain_form<T: Plain>(
+    s: &[u8],
+    read: T,
+    slots: &[usize],
+    out: &mut [u8],
+) -> Result<usize, Unwritten>
+    ensures { PlainPromise s.now (T.lies s.now read slots.now) (T.form s.now read slots.now) out.old result out.new }
 {
-    if !places::request(s, head, slots) {
-        return Writing::Unwritable;
+    if !read.lies(s, slots) {
+        return Err(Unwritten::Unwritable);
     }
     // a byte of room is enough to learn the length
-    let n = formlines::request(&mut [0], s, head, slots);
+    let n = read.put(&mut [0], 0, s, slots);
     if n == usize::MAX {
-        return Writing::TooLong;
+        return Err(Unwritten::TooLong);
     }
     if out.len() < n {
-        return Writing::Needs(n);
+        return Err(Unwritten::Needs(n));
     }
-    formlines::request(out, s, head, slots);
-    Writing::Written(n)
-}
-
-pub fn plain_response(s: &[u8], head: ResponseHead, slots: &[usize], out: &mut [u8]) -> Writing
-    ensures { PlainPromise s.now (ResponseLies s.now head slots.now) (response_form s.now head slots.now) out.old result out.new }
-{
-    if !places::response(s, head, slots) {
-        return Writing::Unwritable;
-    }
-    let n = formlines::response(&mut [0], s, head, slots);
-    if n == usize::MAX {
-        return Writing::TooLong;
-    }
-    if out.len() < n {
-        return Writing::Needs(n);
-    }
-    formlines::response(out, s, head, slots);
-    Writing::Written(n)
-}
-
-pub fn plain_headers(s: &[u8], block: Block, slots: &[usize], out: &mut [u8]) -> Writing
-    ensures { PlainPromise s.now (BlockLies s.now block slots.now) (block_form s.now block slots.now) out.old result out.new }
-{
-    if !places::block(s, block, slots) {
-        return Writing::Unwritable;
-    }
-    let count = block.count;
-    let n = formlines::fields(&mut [0], 0, s, slots, count);
-    if n == usize::MAX {
-        return Writing::TooLong;
-    }
-    if out.len() < n {
-        return Writing::Needs(n);
-    }
-    formlines::fields(out, 0, s, slots, count);
-    Writing::Written(n)
+    read.put(out, 0, s, slots);
+    Ok(n)
 }

@@ -1,7 +1,8 @@
--- `formlines::field` meets its contract: five texts are put one behind another.
+-- Five texts are put one behind another.
 -- Assumes nothing.
+use Rattle.std.proofs.Common.{rules}
 use Rattle.output.specs.Put.{adds_then}
 use Rattle.formlines.proofs.field.Goals as goal
 
 pub returns : goal.returns
-returns c = adds_then (adds_then (adds_then (adds_then c.piece-colon.ensures c.put-space.ensures.adds) c.put-start.ensures.adds) c.piece-end.ensures) c.put.ensures.adds
+returns c = search (rules, adds_then) depth 12

@@ -1,0 +1,8 @@
+-- The headers are put behind the status line.
+-- Assumes nothing.
+use Rattle.std.proofs.Common.{rules}
+use Rattle.output.specs.Put.{adds_then}
+use Rattle.formlines.proofs.HeadStatusLinePlain.put.Goals as goal
+
+pub returns : goal.returns
+returns c = search (rules, adds_then)

@@ -1,9 +1,0 @@
--- `octets::is_blank` meets its contract: its test agrees with the class at every byte.
--- Assumes nothing.
-use borrow.Author.Rules.{rules}
-use Rattle.octets.proofs.Tests.{tests}
-use Rattle.octets.proofs.is_blank.Statement.{statement}
-use Rattle.octets.proofs.is_blank.Tie as tie
-
-pub is_blank_spec : {M : Type 1} → statement M
-is_blank_spec = tie.close (tie.spec (λ c. search (rules, tests)))

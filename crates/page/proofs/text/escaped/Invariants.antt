@@ -1,6 +1,0 @@
--- `page::text::escaped` is safe and ends: the loop goes over the bytes once.
-use Rattle.std.proofs.Common.{◌-◌, length}
-use Rattle.page.proofs.text.escaped.Given as goal
-
-abbrev pub decreases-loop-i : goal.decreases-loop-i
-decreases-loop-i l = length l.s - l.i
