@@ -1,9 +1,9 @@
 // The arguments: request|response|headers|chunk [--raw] [FILE], or --plain request|response|headers [FILE]; before them, settings.
-ghost use Rattle.std.specs.Prelude.{◌≤◌};
+ghost use Rattle.std.specs.Prelude.{◌≡◌, ◌+◌, ◌≤◌};
 
 use crate::settings;
 use crate::settings::Taken;
-use crate::system::{argument, count, room, tell};
+use crate::system::{argument, is_there, room, tell};
 use report::Audience;
 use rules::Settings;
 use wording::Kind;
@@ -24,162 +24,167 @@ pub struct Call {
     pub file: Option<usize>,
 }
 
+impl Call {
+    // With standard input, until an argument names a file.
+    fn new(kind: Kind, mode: Mode, settings: Settings) -> Call {
+        Call {
+            kind,
+            mode,
+            settings,
+            file: None,
+        }
+    }
+}
+
+// The arguments from the next one on; the program's own name is argument 0.
+#[derive(Clone, Copy)]
+struct Arguments<'a> {
+    rt: &'a HostRuntime,
+    next: usize,
+}
+
 // None where the call was refused with a message, here and in what is called.
 pub fn asked(rt: &HostRuntime) -> Option<Call> {
     let Taken { settings, next } = settings::first(rt);
-    asked_behind(rt, next, settings)
+    Arguments { rt, next }.call(settings)
 }
 
-// The arguments from the first that is no setting on.
-fn asked_behind(rt: &HostRuntime, at: usize, settings: Settings) -> Option<Call>
-    requires { at ≤ 8 }
-{
-    if is(rt, at, b"--plain") {
-        return asked_plain(rt, at + 1, settings);
-    }
-    match kind_at(rt, at) {
-        Some(kind) => {
-            if is(rt, at + 1, b"--raw") {
-                with_file(rt, kind, Mode::Report(Audience::Script), settings, at + 2)
-            } else {
-                with_file(rt, kind, Mode::Report(Audience::Person), settings, at + 1)
-            }
+impl<'a> Arguments<'a> {
+    // What the arguments behind the settings ask for.
+    fn call(self, settings: Settings) -> Option<Call>
+        requires { self.next ≤ 8 }
+    {
+        if self.next_is(b"--plain") {
+            return self.behind().plain(settings);
         }
-        None => refused_word(
-            rt,
-            at,
-            b"headread: behind the settings, if any, must stand request, response, headers or chunk, or --plain",
-        ),
-    }
-}
-
-fn asked_plain(rt: &HostRuntime, at: usize, settings: Settings) -> Option<Call>
-    requires { at ≤ 9 }
-{
-    match kind_at(rt, at) {
-        Some(Kind::Chunk) => refused(rt, b"headread: a chunk size line has no plain form\n"),
-        Some(kind) => with_file(rt, kind, Mode::Plain, settings, at + 1),
-        None => refused_word(
-            rt,
-            at,
-            b"headread: behind --plain must stand request, response or headers",
-        ),
-    }
-}
-
-fn kind_at(rt: &HostRuntime, at: usize) -> Option<Kind> {
-    let mut room = room();
-    match argument(rt, at, &mut room) {
-        b"request" => Some(Kind::Request),
-        b"response" => Some(Kind::Response),
-        b"headers" => Some(Kind::Headers),
-        b"chunk" => Some(Kind::Chunk),
-        _ => None,
-    }
-}
-
-fn is(rt: &HostRuntime, at: usize, option: &[u8]) -> bool {
-    let mut room = room();
-    argument(rt, at, &mut room) == option
-}
-
-// A setting is for the kinds that it changes.
-fn with_file(
-    rt: &HostRuntime,
-    kind: Kind,
-    mode: Mode,
-    settings: Settings,
-    at: usize,
-) -> Option<Call> {
-    let of_requests = settings.ascii_targets | settings.spaces_in_request_line;
-    let of_responses = settings.spaces_in_status_line
-        | settings.spaces_after_name
-        | settings.multiline_headers;
-    let of_both = settings.space_before_first_name
-        | settings.ignore_invalid_headers_in_requests
-        | settings.ignore_invalid_headers_in_responses;
-    match kind {
-        Kind::Request => {
-            if of_responses {
-                return refused(
-                    rt,
-                    b"headread: --spaces-in-status-line, --spaces-after-name and --multiline-headers are for responses: a request has none of them\n",
-                );
-            }
-        }
-        Kind::Response => {
-            if of_requests {
-                return refused(
-                    rt,
-                    b"headread: --ascii-targets and --spaces-in-request-line are for requests: a response has neither\n",
-                );
-            }
-        }
-        _ => {
-            if of_requests | of_responses | of_both {
-                return refused(
-                    rt,
-                    b"headread: settings are for requests and responses: headers alone and a chunk size line have none\n",
-                );
-            }
+        let Some(kind) = self.kind() else {
+            return self.refused_word(
+                b"headread: behind the settings, if any, must stand request, response, headers or chunk, or --plain",
+            );
+        };
+        let behind = self.behind();
+        if behind.next_is(b"--raw") {
+            behind
+                .behind()
+                .with_file(Call::new(kind, Mode::Report(Audience::Script), settings))
+        } else {
+            behind.with_file(Call::new(kind, Mode::Report(Audience::Person), settings))
         }
     }
-    file_at(rt, kind, mode, settings, at)
-}
 
-// The file is the last argument, and may be left out.
-fn file_at(
-    rt: &HostRuntime,
-    kind: Kind,
-    mode: Mode,
-    settings: Settings,
-    at: usize,
-) -> Option<Call> {
-    let count = count(rt);
-    if at < count {
-        if is_option(rt, at) {
-            return refused(
-                rt,
+    fn plain(self, settings: Settings) -> Option<Call>
+        requires { self.next ≤ 9 }
+    {
+        match self.kind() {
+            Some(Kind::Chunk) => self.refused(b"headread: a chunk size line has no plain form\n"),
+            Some(kind) => self
+                .behind()
+                .with_file(Call::new(kind, Mode::Plain, settings)),
+            None => self.refused_word(
+                b"headread: behind --plain must stand request, response or headers",
+            ),
+        }
+    }
+
+    // A setting is for the kinds that it changes.
+    fn with_file(self, call: Call) -> Option<Call>
+        requires { self.next ≤ 10 }
+    {
+        let settings = call.settings;
+        let of_requests = settings.ascii_targets | settings.spaces_in_request_line;
+        let of_responses = settings.spaces_in_status_line
+            | settings.spaces_after_name
+            | settings.multiline_headers;
+        let of_both = settings.space_before_first_name
+            | settings.ignore_invalid_headers_in_requests
+            | settings.ignore_invalid_headers_in_responses;
+        match call.kind {
+            Kind::Request if of_responses => self.refused(
+                b"headread: --spaces-in-status-line, --spaces-after-name and --multiline-headers are for responses: a request has none of them\n",
+            ),
+            Kind::Response if of_requests => self.refused(
+                b"headread: --ascii-targets and --spaces-in-request-line are for requests: a response has neither\n",
+            ),
+            Kind::Headers | Kind::Chunk if of_requests | of_responses | of_both => self.refused(
+                b"headread: settings are for requests and responses: headers alone and a chunk size line have none\n",
+            ),
+            _ => self.file(call),
+        }
+    }
+
+    // The file is the last argument, and may be left out.
+    fn file(self, call: Call) -> Option<Call>
+        requires { self.next ≤ 10 }
+    {
+        if !self.is_there() {
+            return Some(call);
+        }
+        if self.word(&mut room()).starts_with(b"-") {
+            return self.refused(
                 b"headread: settings stand first, then --plain, and --raw behind the kind; a file whose name starts with - is given as ./-\n",
             );
         }
-        if at < count - 1 {
-            return refused(
-                rt,
+        if self.behind().is_there() {
+            return self.refused(
                 b"headread: too many arguments: one file is read, and its name stands last\n",
             );
         }
+        Some(Call {
+            file: Some(self.next),
+            ..call
+        })
     }
-    Some(Call {
-        kind,
-        mode,
-        settings,
-        file: (at < count).then_some(at),
-    })
-}
 
-fn is_option(rt: &HostRuntime, at: usize) -> bool {
-    let mut room = room();
-    argument(rt, at, &mut room).starts_with(b"-")
-}
-
-// Says what must stand there, and which word does.
-fn refused_word(rt: &HostRuntime, at: usize, why: &[u8]) -> Option<Call> {
-    let mut room = room();
-    let word = argument(rt, at, &mut room);
-    tell(rt, why);
-    if !word.is_empty() {
-        tell(rt, b"; here stands ");
-        tell(rt, word);
+    // The same without the next one.
+    fn behind(self) -> Arguments<'a>
+        requires { self.next ≤ 10 }
+        ensures { result.next ≡ self.entry.next + 1 }
+    {
+        Arguments {
+            rt: self.rt,
+            next: self.next + 1,
+        }
     }
-    refused(rt, b"\n")
-}
 
-fn refused(rt: &HostRuntime, why: &[u8]) -> Option<Call> {
-    tell(rt, why);
-    tell(
-        rt,
-        b"usage: headread [SETTING ..] request|response|headers|chunk [--raw] [FILE]
+    fn kind(self) -> Option<Kind> {
+        match self.word(&mut room()) {
+            b"request" => Some(Kind::Request),
+            b"response" => Some(Kind::Response),
+            b"headers" => Some(Kind::Headers),
+            b"chunk" => Some(Kind::Chunk),
+            _ => None,
+        }
+    }
+
+    fn next_is(self, option: &[u8]) -> bool {
+        self.word(&mut room()) == option
+    }
+
+    fn word(self, room: &mut [u8]) -> &[u8] {
+        argument(self.rt, self.next, room)
+    }
+
+    fn is_there(self) -> bool {
+        is_there(self.rt, self.next)
+    }
+
+    // Says what must stand there, and which word does.
+    fn refused_word(self, why: &[u8]) -> Option<Call> {
+        let mut room = room();
+        let word = self.word(&mut room);
+        tell(self.rt, why);
+        if !word.is_empty() {
+            tell(self.rt, b"; here stands ");
+            tell(self.rt, word);
+        }
+        self.refused(b"\n")
+    }
+
+    fn refused(self, why: &[u8]) -> Option<Call> {
+        tell(self.rt, why);
+        tell(
+            self.rt,
+            b"usage: headread [SETTING ..] request|response|headers|chunk [--raw] [FILE]
        headread [SETTING ..] --plain request|response|headers [FILE]
   says what stands at the start of FILE, or of standard input where no file is named
   --raw    one line a field with tabs between, for scripts
@@ -194,6 +199,7 @@ settings, each for the messages that it names and refused with others
   --multiline-headers        responses: a line that begins with a blank goes on with the value before it
   --ignore-invalid-headers   requests and responses: a line that is no header is passed over
 ",
-    );
-    None
+        );
+        None
+    }
 }

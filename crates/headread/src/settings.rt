@@ -19,8 +19,7 @@ pub fn first(rt: &HostRuntime) -> Taken
 {
     let mut settings = Settings::default();
     for next in 1..=SETTINGS {
-        let mut room = room();
-        if !set(&mut settings, argument(rt, next, &mut room)) {
+        if !set(&mut settings, argument(rt, next, &mut room())) {
             return Taken { settings, next };
         }
     }

@@ -18,18 +18,9 @@ pub fn argument<'a>(rt: &HostRuntime, at: usize, room: &'a mut [u8]) -> &'a [u8]
     whole(rt, at, room).unwrap_or(b"")
 }
 
-// How many arguments there are, the program's own name with them.
-pub fn count(rt: &HostRuntime) -> usize {
-    for at in 0..usize::MAX {
-        if is_missing(rt, at) {
-            return at;
-        }
-    }
-    usize::MAX
-}
-
-fn is_missing(rt: &HostRuntime, at: usize) -> bool {
-    matches!(rt.arg(at, &mut []), Err(FillError::NotPresent))
+// Whether there is such an argument, however long.
+pub fn is_there(rt: &HostRuntime, at: usize) -> bool {
+    !matches!(rt.arg(at, &mut []), Err(FillError::NotPresent))
 }
 
 // Where standard error can't be written, nobody can be told.
