@@ -8,7 +8,7 @@ mod system;
 
 use arguments::{Call, Mode};
 use input::Unreadable;
-use page::text::{Page, ROOM};
+use page::text::{Page, ROOM, Room};
 use reading::Given;
 use std::fmt;
 use writer::Unwritten;
@@ -50,25 +50,27 @@ fn read(rt: &HostRuntime, call: Call) {
 
 // Nothing is written before all of it is there.
 fn show(rt: &HostRuntime, mode: Mode, given: Given) {
+    // one room for all that is written: a second one would be as much again of the stack
+    let mut room = [0; ROOM];
     match mode {
         Mode::Report(audience) => {
-            let mut page = Page::new();
+            let mut page = Page::new(&mut room);
             let written = report::report(&mut page, audience, given);
             write_page(rt, &rt.stdout(), &page, written);
         }
-        Mode::Plain => show_plain(rt, &mut [0; ROOM], given),
+        Mode::Plain => show_plain(rt, &mut room, given),
     }
 }
 
 // What has no plain form is told on standard error.
-fn show_plain(rt: &HostRuntime, form: &mut [u8; ROOM], given: Given) {
-    match restate::restate(form, given) {
-        Ok(n) => match form.get(..n) {
+fn show_plain(rt: &HostRuntime, room: &mut Room, given: Given) {
+    match restate::restate(room, given) {
+        Ok(n) => match room.get(..n) {
             Some(text) => write(rt, &rt.stdout(), text),
             None => refuse_size(rt),
         },
         Err(Unwritten::Unwritable) => {
-            let mut page = Page::new();
+            let mut page = Page::new(room);
             let written = report::no_plain_form(&mut page, given);
             write_page(rt, &rt.stderr(), &page, written);
         }

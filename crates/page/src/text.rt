@@ -8,29 +8,36 @@ use std::marker::Model;
 // Room for the longest report: an input of 65,536 bytes, each of them as \xHH and twice, and some words.
 pub const ROOM: usize = 589824;
 
-// What was written so far, at the start of its room: an array and no String, since the report is made in fixed memory.
+// An array and no String, since a report is made in fixed memory.
+pub type Room = [u8; ROOM];
+
+// What was written so far, at the start of the room that was lent, so that a program has one room for all that it writes.
 #[derive(Drop)]
-pub struct Page {
-    room: [u8; ROOM],
+pub struct Page<'a> {
+    room: &'a mut Room,
     written: usize,
 }
 
-impl Model for Page {
+impl<'a> Model for Page<'a> {
     ghost Value = { List ℕ };
 
-    ghost view = { λ p. take p.written p.room };
+    ghost view = { λ p. take p.written p.room.now };
 
-    ghost invariant = { λ p. p.written ≤ ROOM };
+    ghost invariant = { λ p. (p.written ≤ ROOM) × (length p.room.now ≡ ROOM) };
 }
 
-impl Page {
-    pub fn new() -> Self
+impl<'a> Page<'a> {
+    pub fn new(room: &'a mut Room) -> Self
         ensures { result ≡ [] }
     {
-        Page {
-            room: [0; ROOM],
-            written: 0,
-        }
+        Page { room, written: 0 }
+    }
+
+    // Takes back all that was written.
+    pub fn clear(&mut self)
+        ensures { self.new ≡ [] }
+    {
+        self.written = 0;
     }
 
     pub fn text(&self) -> &[u8]
@@ -41,7 +48,7 @@ impl Page {
 }
 
 // A text that has no room is an error, and nothing of it is written.
-impl fmt::Write for Page {
+impl fmt::Write for Page<'_> {
     ghost write_str_gives = { λ before text after. after ≡ before ++ text };
 
     fn write_str(&mut self, s: &str) -> fmt::Result
@@ -54,7 +61,8 @@ impl fmt::Write for Page {
             return Err(fmt::Error);
         }
         let end = self.written + text.len();
-        self.room[self.written..end].copy_from_slice(text);
+        let room = &mut *self.room;
+        room[self.written..end].copy_from_slice(text);
         self.written = end;
         Ok(())
     }

@@ -1,5 +1,5 @@
 // Reading a row of recorded answers: numbers, and bytes in hexadecimal, with a space behind each.
-ghost use Rattle.std.specs.Prelude.{◌<◌};
+ghost use Rattle.std.specs.Prelude.{◌<◌, ◌≤◌, length};
 
 use octets::{Class, Digit};
 
@@ -26,21 +26,21 @@ impl<'a> Row<'a> {
 
     // A decimal number, and the byte behind it. Digits beyond 64 bits are dropped: no row has them.
     pub fn number(&mut self) -> u64 {
-        let count = self
-            .rest
-            .iter()
-            .position(|b| !Digit::holds(*b))
-            .unwrap_or(self.rest.len());
-        let (digits, rest) = self.rest.split_at(count);
-        self.rest = rest;
-        self.byte();
-        digits.iter().fold(0, |value, digit| {
-            if value < TEN_TIMES_FITS {
-                (value * 10).wrapping_add(u64::from(digit.wrapping_sub(b'0')))
-            } else {
-                value
+        let mut value: u64 = 0;
+        let mut count = self.rest.len();
+        // one loop, since a second one over the digits takes half as long again
+        for (i, b) in self.rest.iter().enumerate() {
+            if !Digit::holds(*b) {
+                count = i;
+                break;
             }
-        })
+            if value < TEN_TIMES_FITS {
+                value = (value * 10).wrapping_add(u64::from(b.wrapping_sub(b'0')));
+            }
+        }
+        self.rest = self.rest.get(count..).unwrap_or(&[]);
+        self.byte();
+        value
     }
 
     // Whether the next numbers are these.
@@ -61,7 +61,9 @@ impl<'a> Row<'a> {
     }
 
     // The bytes whose pairs of hexadecimal digits stand up to a space. A row's empty input is a hyphen, which is no pair.
-    pub fn input<'b>(&mut self, room: &'b mut [u8]) -> &'b [u8] {
+    pub fn input<'b>(&mut self, room: &'b mut [u8]) -> &'b [u8]
+        ensures { length result.now ≤ length room.old }
+    {
         for (count, byte) in room.iter_mut().enumerate() {
             match self.pair() {
                 Some(b) => *byte = b,

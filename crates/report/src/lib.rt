@@ -24,8 +24,9 @@ pub enum Audience {
     Script,
 }
 
-// A page that has no room for the report is an error, here and in what is called.
+// The report takes the place of what the page has. A page that has no room for it is an error, here and in what is called.
 pub fn report(page: &mut Page, audience: Audience, given: Given) -> fmt::Result {
+    page.clear();
     let mut slots = [0usize; NUMBERS];
     let reading = reading::read(given, &mut slots);
     match audience {
@@ -46,6 +47,7 @@ pub fn report(page: &mut Page, audience: Audience, given: Given) -> fmt::Result 
 
 // The report to a person on an input that has no plain form: where it is complete, on the value that keeps it from having one.
 pub fn no_plain_form(page: &mut Page, given: Given) -> fmt::Result {
+    page.clear();
     let mut slots = [0usize; NUMBERS];
     let reading = reading::read(given, &mut slots);
     match reading.answer {

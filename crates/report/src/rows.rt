@@ -12,13 +12,13 @@ use std::fmt::Write;
 
 // The page that rows are written on, whom they are for, and the input that they tell of.
 #[derive(Drop)]
-pub struct Rows<'a> {
-    pub page: &'a mut Page,
+pub struct Rows<'a, 'b> {
+    pub page: &'a mut Page<'b>,
     pub audience: Audience,
     pub bytes: &'a [u8],
 }
 
-impl Rows<'_> {
+impl Rows<'_, '_> {
     // What the start line tells.
     pub fn first_line(&mut self, first: First) -> fmt::Result {
         match first {

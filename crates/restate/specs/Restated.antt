@@ -17,13 +17,13 @@ use Rattle.writer.specs.Promise.{Writing}
 abbrev pub most : ℕ
 most = 100
 
--- Head is what the grammar calls a head, Default what it calls one by default, plain a head's plain form, old the page before, and last stand the
--- answer and the page after
+-- Head is what the grammar calls a head, Default what it calls one by default, plain a head's plain form, old what was lent before, and last stand
+-- the answer and what was lent after
 pub data Restated {L : Type 0} (Head Default : List ℕ → L → List Field → Type 0) (plain : L → List Field → List ℕ) (s old : List ℕ) : Writing → List ℕ → Type 0 where
-  -- the input begins with a head w, and its plain form, which is a head with the same fields, by default too, stands at the page's start
+  -- the input begins with a head w, and its plain form, which is a head with the same fields, by default too, stands at its start
   form : {w : List ℕ} (t : List ℕ) {l : L} {fs : List Field} {n : ℕ} {new : List ℕ} → s ≡ w ++ t → Head w l fs → Head (plain l fs) l fs → Default (plain l fs) l fs → n ≡ length (plain l fs) → new ≡ plain l fs ++ drop n old → Restated Head Default plain s old (Ok n) new
-  -- the input begins with no head that has at most so many fields, whose values stand on one line each and whose plain form fits the page,
-  -- which is as it was
+  -- the input begins with no head that has at most so many fields, whose values stand on one line each and whose plain form fits what was
+  -- lent, which is as it was
   nothing : {r : Writing} → ((n : ℕ) → r ≡ Ok n → ⊥) → ((w t : List ℕ) (l : L) (fs : List Field) → s ≡ w ++ t → Head w l fs → length fs ≤ most → OneLine fs → length old < length (plain l fs)) → Restated Head Default plain s old r old
 
 -- what was asked for: a kind of head, by the rules that the settings choose, or a chunk size line, which has no plain form
