@@ -4,6 +4,7 @@ use Rattle.std.specs.Prelude.{ℕ, ◌+◌, ◌-◌, ◌≤◌, ◌<◌, ◌≡�
 use Rattle.std.proofs.Common.{arith, ap, subst, ◌∙◌}
 use Rattle.std.proofs.Math.Decide.{dec_lt}
 use Rattle.reader.specs.Skip.{Passed, Skipped}
+use Rattle.reader.proofs.Skip.{skips}
 use Rattle.flags.specs.Test.{word}
 use Rattle.flags.specs.Sure.{Sure}
 
@@ -60,3 +61,6 @@ module _ {class : ℕ → Bool} {xs : List ℕ} {i : ℕ} where
       go : (k : ℕ) → i ≤ k → k < e → Dec (k < r) → class (get_or xs k 0) ≡ true
       go k lo hi (yes p) = h.all k lo p
       go k lo hi (no p) = t.passed.all k (omega (arith, p)) hi
+
+-- what proves a loop that passes over eight bytes, or one
+pub ruleset aheads = (skips, ahead_less, passed_ahead, passed_eight)

@@ -4,7 +4,7 @@
 ghost use Rattle.std.specs.Prelude.{◌≡◌, ◌≤◌};
 ghost use Rattle.flags.specs.Sure.{flags, clear as clear_of, Sure};
 ghost use Rattle.flags.specs.Test.{at_word, both, either, high, least, none};
-ghost use Rattle.flags.specs.Classes.{not_token};
+ghost use Rattle.flags.specs.Classes.{not_token, not_visible};
 
 use octets::{Ascii, Class, Target, Token, Value, Visible};
 
@@ -65,6 +65,13 @@ fn text_flags<const LEAST: u64>(x: u64) -> u64
     low_or_delete::<LEAST>(x) & (x ^ FLAGS) & FLAGS
 }
 
+// Flags in the bytes below 0x21, and from 0x7F on.
+fn visible_flags(x: u64) -> u64
+    ensures { result ≡ flags not_visible x }
+{
+    (low_or_delete::<0x21>(x) | x) & FLAGS
+}
+
 // Letters and hyphens have none, of which most names are made; digits and the other marks are left to the test of one byte.
 fn token_flags(x: u64) -> u64
     ensures { result ≡ flags not_token x }
@@ -91,7 +98,7 @@ impl Eights for Target {
 
 impl Eights for Visible {
     fn sure(x: u64) -> usize {
-        clear((low_or_delete::<0x21>(x) | x) & FLAGS)
+        clear(visible_flags(x))
     }
 }
 

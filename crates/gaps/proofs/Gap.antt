@@ -1,7 +1,7 @@
 -- A gap: bytes of a class that are passed over before a part is read, as many as there are, which may be none.
 -- Assumes nothing.
-use Rattle.std.specs.Prelude.{ℕ, suc, ◌+◌, ◌≤◌, ◌<◌, ◌≡◌, refl, List, [], ◌∷◌, ◌++◌, Bool, true, cond, length, get_or, drop}
-use Rattle.std.proofs.Common.{arith, add-zero, sym, ap, ◌∙◌, length-append, drop_of_length-le}
+use Rattle.std.specs.Prelude.{ℕ, suc, ◌+◌, ◌≤◌, ◌<◌, ◌≡◌, refl, List, [], ◌∷◌, ◌++◌, Bool, true, false, cond, length, get_or, drop}
+use Rattle.std.proofs.Common.{arith, add-zero, sym, ap, ◌∙◌, length-append, drop_of_length-le, ne_eqb}
 use Rattle.std.proofs.Math.Decide.{dec_lt}
 use Rattle.std.proofs.Math.ListN.{get_or-append}
 use Rattle.reader.specs.Machine.{more, gave, Step, run_at}
@@ -10,11 +10,12 @@ use Rattle.reader.specs.Tests.{split, never}
 use Rattle.reader.proofs.Laws.{run_in, run_out}
 use Rattle.reader.specs.Seq.{first}
 use Rattle.reader.specs.Skip.{Skipped}
-use Rattle.reader.proofs.Skip.{skip, passed_none}
+use Rattle.reader.proofs.Skip.{skip, passed_none, skips}
 use Rattle.reader.specs.Answer.{answer, and}
 use Rattle.reader.proofs.Answer.{answer_seq}
 use Rattle.reader.specs.Chain.{nothing, reads}
-use Rattle.gaps.specs.Gap.{behind_gap, gap_end, gap_known, gap_length, gap_step}
+use Rattle.octets.specs.Class.{is_blank}
+use Rattle.gaps.specs.Gap.{behind_gap, blanks_if, gap_end, gap_known, gap_length, gap_step, is_space, spaces_if}
 
 module _ {F : Type 0} {class : ℕ → Bool} {xs : List ℕ} {at q : ℕ} (k : Skipped class xs at q) where
   over : at ≤ length xs → run_at (gap_step {F = F} class) tt xs at ≡ run_at (gap_step class) tt xs q
@@ -76,3 +77,25 @@ skipped_longer {class} {xs} {at} {q} ys k h =
       passed = record { from = k.passed.from; inside = λ _. omega (arith, h, size); past = λ p. absurd (omega (arith, p, h, size, k.passed.from)); all = λ n lo hi. ap class (get_or-append xs ys 0 n (omega (arith, h, hi))) ∙ k.passed.all n lo hi };
       stop = λ _. ap class (get_or-append xs ys 0 q h) ∙ k.stop h;
     }
+
+pub space_is : {b : ℕ} → b ≡ 32 → is_space b ≡ true
+space_is e = rw e
+
+pub space_is_not : {b : ℕ} → (b ≡ 32 → ⊥) → is_space b ≡ false
+space_is_not {b} e = ne_eqb b 32 e
+
+-- where the setting is on, and where it is off
+module _ {allowed : Bool} {xs : List ℕ} {at : ℕ} where
+  pub spaces_on : {q : ℕ} → allowed ≡ true → Skipped is_space xs at q → Skipped (spaces_if allowed) xs at q
+  spaces_on e k = rw e k
+
+  pub spaces_off : allowed ≡ false → Skipped (spaces_if allowed) xs at at
+  spaces_off e = rw e (record { passed = passed_none; stop = λ _. refl })
+
+  pub blanks_on : {q : ℕ} → allowed ≡ true → Skipped is_blank xs at q → Skipped (blanks_if allowed) xs at q
+  blanks_on e k = rw e k
+
+  pub blanks_off : allowed ≡ false → Skipped (blanks_if allowed) xs at at
+  blanks_off e = rw e (record { passed = passed_none; stop = λ _. refl })
+
+pub ruleset gaps = (skips, space_is, space_is_not, spaces_on, spaces_off, blanks_on, blanks_off)

@@ -12,7 +12,7 @@ use Rattle.requestline.specs.RequestLine as requests
 use Rattle.statusline.specs.StatusLine.{status_line_step, status_line}
 use Rattle.statusline.specs.StatusLine as statuses
 use Rattle.blocks.specs.Block.{block}
-use Rattle.heads.specs.Head.{Heads, head, over, headed, head_parts, Told}
+use Rattle.heads.specs.Head.{Heads, head, over, headed, head_parts, Told, told_block, head_on, head_stops}
 
 unfoldable pub request : Rules → ℕ → List ℕ → Heads RequestLine
 request r n xs = head r n (request_line_step r) requests.line_known (first start) xs
@@ -36,3 +36,5 @@ module _ (r : Rules) (n : ℕ) (xs : List ℕ) where
 
     pub response_whole : {line : StatusLine} → Told (headed (status_line r xs 0) (λ k q. over k (block r n [] xs q))) end line count old new → Told (response r n xs) end line count old new
     response_whole t = rw response_parts t
+
+pub ruleset calls = (request_whole, response_whole, told_block, head_on, head_stops)

@@ -7,6 +7,7 @@ use Rattle.reader.specs.Machine.{run_at}
 use Rattle.reader.proofs.Laws.{run_in}
 use Rattle.reader.specs.Seq.{first, second}
 use Rattle.reader.specs.Skip.{Skipped}
+use Rattle.reader.proofs.Skip.{passed_none, passed_more, skipped_at, skipped_end}
 use Rattle.reader.specs.Lifted.{run_lifted}
 use Rattle.reader.specs.Answer.{Answer, answer}
 use Rattle.reader.proofs.Answer.{answer_ran}
@@ -69,5 +70,7 @@ module _ {b : ℕ} where
   pub others_pass : (b ≡ 0 → ⊥) → (b ≡ 13 → ⊥) → (b ≡ 10 → ⊥) → is_ignorable b ≡ true
   unfolding is_ignorable
   others_pass n c l = rw (ne_eqb b 0 n, ne_eqb b 13 c, ne_eqb b 10 l)
+
+pub ruleset skips = (passed_none, passed_more, skipped_at, skipped_end, nul_stops, cr_stops, lf_stops, others_pass)
 
 pub ruleset rests = (starts_cr, starts_behind, starts_first, starts_outside, rest_is)

@@ -1,9 +1,9 @@
 -- Text that is handed to a formatter in parts: what was handed over, and what is left of it in the room, is all of it.
 -- Assumes nothing.
-use Rattle.std.specs.Prelude.{ℕ, ◌+◌, ◌≤◌, ◌≡◌, refl, List, [], ◌++◌, length, take}
-use Rattle.std.specs.Fmt.{HasWritten, IsPlainFormatter}
+use Rattle.std.specs.Prelude.{ℕ, ◌+◌, ◌≤◌, ◌≡◌, refl, List, ◌++◌, length, take}
+use Rattle.std.specs.Fmt.{HasWritten}
 use Rattle.std.specs.declared.fmt.Formatter.{Formatter}
-use Rattle.std.proofs.Common.{arith, sym, ap, ◌∙◌, length-take-le, take-take, append_assoc}
+use Rattle.std.proofs.Common.{arith, sym, ap, ◌∙◌, length-take-le, take-take}
 use Rattle.std.proofs.Math.Seq.{take-append-add}
 use Rattle.std.proofs.lemmas.Slice.{take-put_mid}
 use Rattle.std.proofs.lemmas.Grind.{put_two}
@@ -21,12 +21,6 @@ pub record Handed {W : Type 0} (took : W → List ℕ → W → Type 0) (f : For
   pub whole : done ++ left ≡ all
 
 module _ {W : Type 0} {took : W → List ℕ → W → Type 0} {f : Formatter W} where
-  pub handed_none : {left all : List ℕ} → left ≡ [] → all ≡ [] → IsPlainFormatter f → Handed took f left all f
-  handed_none e h p = record { done = []; wrote = record { wrote = record { parts = []; calls = refl; whole = refl }; plain = p }; whole = e ∙ sym h }
-
   module _ {left all : List ℕ} {g : Formatter W} (k : Handed took f left all g) where
     pub handed_all : {left' all' : List ℕ} {h : Formatter W} → HasWritten took g left' h → left ≡ left' → all ≡ all' → HasWritten took f all' h
     handed_all t e i = put_two took _ _ _ _ _ _ k.wrote t (ap (λ y. k.done ++ y) (sym e) ∙ k.whole ∙ i)
-
-    pub handed_more : {left' all' : List ℕ} (w : List ℕ) → left' ≡ left ++ w → all' ≡ all ++ w → Handed took f left' all' g
-    handed_more w e h = record { done = k.done; wrote = k.wrote; whole = ap (λ y. k.done ++ y) e ∙ sym (append_assoc k.done left w) ∙ ap (λ y. y ++ w) k.whole ∙ sym h }

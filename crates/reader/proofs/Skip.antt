@@ -45,6 +45,9 @@ told_true {t} e h = sym e ∙ not-false t h
 pub told_false : {t c : Bool} → t ≡ c → not t ≡ true → c ≡ false
 told_false {t} e h = sym e ∙ not-true t h
 
+-- what proves a loop that skips a class
+pub ruleset skips = (passed_none, passed_more, skipped_at, skipped_end, told_true, told_false)
+
 -- bytes that leave a machine in its state are passed over
 module _ {S A F : Type 0} (m : Step S A F) (class : ℕ → Bool) (s : S) (keeps : (q b : ℕ) → class b ≡ true → m s q b ≡ keep s) (xs : List ℕ) where
   skip_by : (d i : ℕ) → i + d ≤ length xs → ((k : ℕ) → i ≤ k → k < i + d → class (get_or xs k 0) ≡ true) → run_at m s xs i ≡ run_at m s xs (i + d)

@@ -56,3 +56,5 @@ module _ (b : ℕ) where
   unfolding lead
   row_none a c e f g h i j k =
       rw (above_range 0x00 0x7F b a, c, ne_eqb b 0xE0 e, f, ne_eqb b 0xED g, h, ne_eqb b 0xF0 i, j, ne_eqb b 0xF4 k)
+
+pub ruleset rows = (row_00_7F, row_C2_DF, row_E0, row_E1_EC, row_ED, row_EE_EF, row_F0, row_F1_F3, row_F4, row_none)

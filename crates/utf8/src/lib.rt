@@ -26,18 +26,27 @@ fn keep(left: usize, low: u8, high: u8) -> Option<Awaited>
 fn lead(b: u8) -> Option<Awaited>
     ensures { moved result ≡ lead_of b }
 {
-    match b {
-        0x00..=0x7F => keep(0, 0x80, 0xBF),
-        0xC2..=0xDF => keep(1, 0x80, 0xBF),
-        0xE0 => keep(2, 0xA0, 0xBF),
-        0xE1..=0xEC => keep(2, 0x80, 0xBF),
-        0xED => keep(2, 0x80, 0x9F),
-        0xEE..=0xEF => keep(2, 0x80, 0xBF),
-        0xF0 => keep(3, 0x90, 0xBF),
-        0xF1..=0xF3 => keep(3, 0x80, 0xBF),
-        0xF4 => keep(3, 0x80, 0x8F),
-        _ => None,
+    // Tests in this order and no match: most bytes are ASCII, and a match makes of all of them one jump that goes by a table.
+    if b < 0x80 {
+        return keep(0, 0x80, 0xBF);
     }
+    if b < 0xE0 {
+        if 0xC2 <= b {
+            return keep(1, 0x80, 0xBF);
+        }
+        return None;
+    }
+    if b < 0xF0 {
+        let low = if b == 0xE0 { 0xA0 } else { 0x80 };
+        let high = if b == 0xED { 0x9F } else { 0xBF };
+        return keep(2, low, high);
+    }
+    if b <= 0xF4 {
+        let low = if b == 0xF0 { 0x90 } else { 0x80 };
+        let high = if b == 0xF4 { 0x8F } else { 0xBF };
+        return keep(3, low, high);
+    }
+    None
 }
 
 #[tactic(auto, using(crate::proofs::Come::steps), unfolding(octets::specs::Class::within))]

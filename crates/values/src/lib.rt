@@ -3,19 +3,22 @@
 
 ghost use Rattle.std.specs.Prelude.{◌≡◌, ◌≤◌, length};
 ghost use Rattle.parts.specs.Answers.{read};
+ghost use Rattle.octets.specs.Class.{is_value};
+ghost use Rattle.reader.specs.Skip.{Passed};
 ghost use Rattle.values.specs.Trim.{Trimmed};
 ghost use Rattle.values.specs.Value.{value as value_at};
 
-use octets::{Blank, Class, Value};
+use octets::{Blank, Value};
 use parts::{Piece, Read, Unread};
 
-// The end of s[from..end] with the blanks at its end cut off.
+// The end of s[from..end] with the blanks at its end cut off: of a value's bytes those up to the space are its blanks. One test tells both,
+// since two of `Blank` may be guessed wrong at every byte where spaces and tabs stand in turn.
 fn trim(s: &[u8], from: usize, end: usize) -> usize
-    requires { (from ≤ end) × (end ≤ length s.now) }
+    requires { (from ≤ end) × (end ≤ length s.now) × (Passed is_value s.now from end) }
     ensures { Trimmed s.now from end result }
 {
     for last in (from..end).rev() {
-        if !Blank::holds(s[last]) {
+        if s[last] > b' ' {
             return last + 1;
         }
     }
